@@ -1,0 +1,10 @@
+pub mod Tables
+pub mod Bounds
+pub mod Orders
+pub mod Indices
+pub mod Sound
+pub mod Coherent
+pub mod Values
+pub mod Lattice
+pub mod Examples
+pub mod WordBounds

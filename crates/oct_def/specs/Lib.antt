@@ -1,0 +1,7 @@
+pub mod Bound
+pub mod Table
+pub mod Matrix
+pub mod Tight
+pub mod Octagon
+pub mod Laws
+pub mod Examples
