@@ -1,0 +1,9 @@
+pub mod Integers
+pub mod Intervals
+pub mod Forms
+pub mod Linear
+pub mod Bounds
+pub mod Shapes
+pub mod Exact
+pub mod Worked
+pub mod Outward
