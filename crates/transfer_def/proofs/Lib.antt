@@ -1,0 +1,10 @@
+pub mod States
+pub mod Sound
+pub mod Values
+pub mod Pairs
+pub mod Links
+pub mod Exact
+pub mod Expressions
+pub mod Worked
+pub mod Entries
+pub mod Tests

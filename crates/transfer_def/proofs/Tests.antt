@@ -1,0 +1,245 @@
+-- A state in which a condition may come out as wanted meets the value after the test, and a test gives a value.
+use Rattle.std.proofs.Common.{◌≡◌, ◌≢◌, ℕ, Bool, true, false, List, length, ℤ, pos, ◌+ℤ◌, ◌-ℤ◌, ◌≤ℤ◌, ◌<ℤ◌, Option, Some, None, refl, sym, subst, inl, inr, ⊎_elim, arith, ◌∙◌}
+use Rattle.std.specs.Ordering.{int_eq}
+use Rattle.std.proofs.lemmas.Int.{ints, by_lt_z}
+use Rattle.std.proofs.lemmas.Bool.{not-true, not-false, true≢false}
+use Rattle.std.proofs.lemmas.Bool.Decides.{Decides-int_eq}
+use Rattle.oct_def.specs.Table.{Matrix}
+use Rattle.oct_def.specs.Matrix.{Meets, MeetsValue, IsEvenMatrix}
+use Rattle.oct_def.specs.Tight.{tight}
+use Rattle.oct_def.specs.Octagon.{Octagon, MeetsOctagon, IsOctagon, IsValueOver, bottom_value, join_value}
+use Rattle.oct_def.proofs.Sound.{meets-tight}
+use Rattle.oct_def.proofs.Lattice.{octagon-join, meets-join}
+use Rattle.interval_form.specs.Expression.{Expression, IsOver, eval}
+use Rattle.interval_form.specs.Interval.{point, ranges_of}
+use Rattle.interval_form.specs.Form.{Form, Reads}
+use Rattle.interval_form.specs.Linear.{constant_form, linear_form}
+use Rattle.interval_form.specs.FormBounds.{bounded}
+use Rattle.interval_form.proofs.Intervals.{Holds-point}
+use Rattle.interval_form.proofs.Linear.{Reads-linear_form, Reads-difference_form, Reads-sum_form, Reads-constant_form}
+use Rattle.interval_form.proofs.Bounds.{in_ranges-ranges_of, length-ranges_of, meets-bounded}
+use Rattle.transfer_def.specs.Assign.{then_do}
+use Rattle.transfer_def.specs.Condition.{Relation, AtMost, Below, AtLeast, Above, Equal, Different, Condition, Constant, Random, Not, And, Or, Compare, compares, May, IsConditionOver}
+use Rattle.transfer_def.specs.Test.{difference_in, difference_and_one, restricted, restrict_at_most, restrict_below, at_most_value, below_value, equal_value, different_value, compare_value, constant_value, test_value}
+use Rattle.transfer_def.proofs.Sound.{meets-then_do}
+use Rattle.transfer_def.proofs.Values.{matrix-bounded_over, value-tight_over}
+
+-- ---- comparisons
+
+Reads-over : (n : ℕ) (m : Matrix) (e : Expression) (s : List ℤ) → IsOver n e → Meets s m → Reads (length (ranges_of n m)) (linear_form (ranges_of n m) e) s (eval e s)
+Reads-over n m e s o h =
+    Reads-linear_form (ranges_of n m) e s (subst (λ (k : ℕ). IsOver k e) (sym (length-ranges_of n m)) o) (in_ranges-ranges_of n m s h)
+
+Reads-difference_in : (n : ℕ) (m : Matrix) (a b : Expression) (s : List ℤ) → IsOver n a → IsOver n b → Meets s m
+    → Reads (length (ranges_of n m)) (difference_in n m a b) s (eval a s -ℤ eval b s)
+unfolding difference_in
+Reads-difference_in n m a b s p q h =
+    Reads-difference_form (ranges_of n m) (linear_form (ranges_of n m) a) (linear_form (ranges_of n m) b) s (eval a s) (eval b s)
+    (in_ranges-ranges_of n m s h) (Reads-over n m a s p h) (Reads-over n m b s q h)
+
+Reads-one : (n : ℕ) (m : Matrix) (s : List ℤ) → Reads (length (ranges_of n m)) (constant_form n (point (pos 1))) s (pos 1)
+Reads-one n m s =
+    subst (λ (k : ℕ). Reads k (constant_form n (point (pos 1))) s (pos 1)) (sym (length-ranges_of n m)) (Reads-constant_form n (point (pos 1)) s (pos 1) (Holds-point (pos 1)))
+
+Reads-difference_and_one : (n : ℕ) (m : Matrix) (a b : Expression) (s : List ℤ) → IsOver n a → IsOver n b → Meets s m
+    → Reads (length (ranges_of n m)) (difference_and_one n m a b) s ((eval a s -ℤ eval b s) +ℤ pos 1)
+unfolding difference_and_one
+Reads-difference_and_one n m a b s p q h =
+    Reads-sum_form (ranges_of n m) (difference_in n m a b) (constant_form n (point (pos 1))) s (eval a s -ℤ eval b s) (pos 1)
+    (in_ranges-ranges_of n m s h) (Reads-difference_in n m a b s p q h) (Reads-one n m s)
+
+meets-restricted : (n : ℕ) (f : Form) (m : Matrix) (s : List ℤ) (x : ℤ) → Reads (length (ranges_of n m)) f s x → x ≤ℤ pos 0 → Meets s m → MeetsValue s (restricted n f m)
+unfolding restricted
+meets-restricted n f m s x r k h =
+    meets-then_do s (bounded (ranges_of n m) f m) tight (λ b g. meets-tight s b g)
+    (meets-bounded (ranges_of n m) f m s x (in_ranges-ranges_of n m s h) r k h)
+
+meets-at_most : (a b : Expression) (v : Octagon) (s : List ℤ) → IsOver v.dims a → IsOver v.dims b → eval a s ≤ℤ eval b s → MeetsOctagon s v → MeetsOctagon s (at_most_value a b v)
+unfolding at_most_value
+meets-at_most a b v s p q k h =
+    meets-then_do s v.matrix (restrict_at_most v.dims a b) (λ m g.
+    meets-restricted v.dims (difference_in v.dims m a b) m s (eval a s -ℤ eval b s) (Reads-difference_in v.dims m a b s p q g) (omega (arith, ints)) g) h
+
+meets-below : (a b : Expression) (v : Octagon) (s : List ℤ) → IsOver v.dims a → IsOver v.dims b → eval a s <ℤ eval b s → MeetsOctagon s v → MeetsOctagon s (below_value a b v)
+unfolding below_value
+meets-below a b v s p q k h =
+    meets-then_do s v.matrix (restrict_below v.dims a b) (λ m g.
+    meets-restricted v.dims (difference_and_one v.dims m a b) m s ((eval a s -ℤ eval b s) +ℤ pos 1) (Reads-difference_and_one v.dims m a b s p q g) (omega (arith, ints)) g) h
+
+dims-at_most : (a b : Expression) (v : Octagon) → (at_most_value a b v).dims ≡ v.dims
+unfolding at_most_value
+dims-at_most a b v = refl
+
+dims-below : (a b : Expression) (v : Octagon) → (below_value a b v).dims ≡ v.dims
+unfolding below_value
+dims-below a b v = refl
+
+-- an expression is over the dimensions of a value with as many dimensions
+over_same : (n k : ℕ) (e : Expression) → n ≡ k → IsOver k e → IsOver n e
+over_same n k e d o = subst (λ (i : ℕ). IsOver i e) (sym d) o
+
+meets-equal : (a b : Expression) (v : Octagon) (s : List ℤ) → IsOver v.dims a → IsOver v.dims b → eval a s ≡ eval b s → MeetsOctagon s v → MeetsOctagon s (equal_value a b v)
+unfolding equal_value
+meets-equal a b v s p q e h =
+    let d = dims-at_most a b v in
+    meets-at_most b a (at_most_value a b v) s (over_same (at_most_value a b v).dims v.dims b d q) (over_same (at_most_value a b v).dims v.dims a d p) (omega (arith, ints))
+    (meets-at_most a b v s p q (omega (arith, ints)) h)
+
+meets-different : (a b : Expression) (v : Octagon) (s : List ℤ) → IsOver v.dims a → IsOver v.dims b → eval a s ≢ eval b s → MeetsOctagon s v → MeetsOctagon s (different_value a b v)
+unfolding different_value
+meets-different a b v s p q d h =
+    by_lt_z (eval a s) (eval b s)
+    (λ k. meets-join (below_value a b v) (below_value b a v) s (inl (meets-below a b v s p q k h)))
+    (λ k. meets-join (below_value a b v) (below_value b a v) s (inr (meets-below b a v s q p (omega (arith, ints)) h)))
+
+same_integers : (x y : ℤ) → int_eq x y ≡ true → x ≡ y
+same_integers x y e = (Decides-int_eq x y).0 e
+
+apart_integers : (x y : ℤ) → int_eq x y ≡ false → x ≢ y
+apart_integers x y e d = true≢false (sym ((Decides-int_eq x y).1 d) ∙ e)
+
+meets-compare : (r : Relation) (wanted : Bool) (a b : Expression) (v : Octagon) (s : List ℤ) → IsOver v.dims a → IsOver v.dims b → compares r (eval a s) (eval b s) ≡ wanted
+    → MeetsOctagon s v → MeetsOctagon s (compare_value r wanted a b v)
+meets-compare AtMost true a b v s p q e h = meets-at_most a b v s p q (omega (arith, ints)) h
+meets-compare AtMost false a b v s p q e h = meets-below b a v s q p (omega (arith, ints)) h
+meets-compare Below true a b v s p q e h = meets-below a b v s p q (omega (arith, ints)) h
+meets-compare Below false a b v s p q e h = meets-at_most b a v s q p (omega (arith, ints)) h
+meets-compare AtLeast true a b v s p q e h = meets-at_most b a v s q p (omega (arith, ints)) h
+meets-compare AtLeast false a b v s p q e h = meets-below a b v s p q (omega (arith, ints)) h
+meets-compare Above true a b v s p q e h = meets-below b a v s q p (omega (arith, ints)) h
+meets-compare Above false a b v s p q e h = meets-at_most a b v s p q (omega (arith, ints)) h
+meets-compare Equal true a b v s p q e h = meets-equal a b v s p q (same_integers (eval a s) (eval b s) e) h
+meets-compare Equal false a b v s p q e h = meets-different a b v s p q (apart_integers (eval a s) (eval b s) e) h
+meets-compare Different true a b v s p q e h = meets-different a b v s p q (apart_integers (eval a s) (eval b s) (not-true (int_eq (eval a s) (eval b s)) e)) h
+meets-compare Different false a b v s p q e h = meets-equal a b v s p q (same_integers (eval a s) (eval b s) (not-false (int_eq (eval a s) (eval b s)) e)) h
+
+-- ---- the dimensions stay
+
+dims-join : (a b : Octagon) → (join_value a b).dims ≡ a.dims
+unfolding join_value
+dims-join a b = refl
+
+dims-compare : (r : Relation) (wanted : Bool) (a b : Expression) (v : Octagon) → (compare_value r wanted a b v).dims ≡ v.dims
+unfolding at_most_value below_value equal_value different_value join_value
+dims-compare AtMost true a b v = refl
+dims-compare AtMost false a b v = refl
+dims-compare Below true a b v = refl
+dims-compare Below false a b v = refl
+dims-compare AtLeast true a b v = refl
+dims-compare AtLeast false a b v = refl
+dims-compare Above true a b v = refl
+dims-compare Above false a b v = refl
+dims-compare Equal true a b v = refl
+dims-compare Equal false a b v = refl
+dims-compare Different true a b v = refl
+dims-compare Different false a b v = refl
+
+dims-constant : (value wanted : Bool) (v : Octagon) → (constant_value value wanted v).dims ≡ v.dims
+unfolding bottom_value
+dims-constant true true v = refl
+dims-constant true false v = refl
+dims-constant false true v = refl
+dims-constant false false v = refl
+
+pub dims-test_value : (c : Condition) (wanted : Bool) (v : Octagon) → (test_value c wanted v).dims ≡ v.dims
+unfolding test_value
+dims-test_value (Constant value) wanted v = dims-constant value wanted v
+dims-test_value Random wanted v = refl
+dims-test_value (Not c) true v = dims-test_value c false v
+dims-test_value (Not c) false v = dims-test_value c true v
+dims-test_value (And c d) true v = dims-test_value d true (test_value c true v) ∙ dims-test_value c true v
+dims-test_value (And c d) false v = dims-join (test_value c false v) (test_value d false v) ∙ dims-test_value c false v
+dims-test_value (Or c d) true v = dims-join (test_value c true v) (test_value d true v) ∙ dims-test_value c true v
+dims-test_value (Or c d) false v = dims-test_value d false (test_value c false v) ∙ dims-test_value c false v
+dims-test_value (Compare r a b) wanted v = dims-compare r wanted a b v
+
+condition_same : (n k : ℕ) (c : Condition) → n ≡ k → IsConditionOver k c → IsConditionOver n c
+condition_same n k c d o = subst (λ (i : ℕ). IsConditionOver i c) (sym d) o
+
+-- ---- the laws
+
+meets-constant : (value wanted : Bool) (v : Octagon) (s : List ℤ) → wanted ≡ value → MeetsOctagon s v → MeetsOctagon s (constant_value value wanted v)
+meets-constant true true v s e h = h
+meets-constant true false v s e h = absurd (cc)
+meets-constant false true v s e h = absurd (cc)
+meets-constant false false v s e h = h
+
+pub meets-test_value : (c : Condition) (wanted : Bool) (v : Octagon) (s : List ℤ) → IsConditionOver v.dims c → May c s wanted → MeetsOctagon s v → MeetsOctagon s (test_value c wanted v)
+unfolding test_value
+meets-test_value (Constant value) wanted v s o m h = meets-constant value wanted v s m h
+meets-test_value Random wanted v s o m h = h
+meets-test_value (Not c) true v s o m h = meets-test_value c false v s o m h
+meets-test_value (Not c) false v s o m h = meets-test_value c true v s o m h
+meets-test_value (And c d) true v s o m h =
+    meets-test_value d true (test_value c true v) s (condition_same (test_value c true v).dims v.dims d (dims-test_value c true v) o.1) m.1 (meets-test_value c true v s o.0 m.0 h)
+meets-test_value (And c d) false v s o m h =
+    meets-join (test_value c false v) (test_value d false v) s (⊎_elim (λ p. inl (meets-test_value c false v s o.0 p h)) (λ p. inr (meets-test_value d false v s o.1 p h)) m)
+meets-test_value (Or c d) true v s o m h =
+    meets-join (test_value c true v) (test_value d true v) s (⊎_elim (λ p. inl (meets-test_value c true v s o.0 p h)) (λ p. inr (meets-test_value d true v s o.1 p h)) m)
+meets-test_value (Or c d) false v s o m h =
+    meets-test_value d false (test_value c false v) s (condition_same (test_value c false v).dims v.dims d (dims-test_value c false v) o.1) m.1 (meets-test_value c false v s o.0 m.0 h)
+meets-test_value (Compare r a b) wanted v s o m h = meets-compare r wanted a b v s o.0 o.1 m h
+
+-- ---- a test gives a value
+
+value-restricted : (n : ℕ) (f : Form) (m : Matrix) → IsEvenMatrix n m → IsValueOver n (restricted n f m)
+unfolding restricted
+value-restricted n f m v = value-tight_over n (bounded (ranges_of n m) f m) (matrix-bounded_over n (ranges_of n m) f m (length-ranges_of n m) v.matrix)
+
+value-then_do : (n : ℕ) (w : Option Matrix) (go : Matrix → Option Matrix) → ((m : Matrix) → IsEvenMatrix n m → IsValueOver n (go m)) → IsValueOver n w → IsValueOver n (then_do w go)
+value-then_do n None go f h = tt
+value-then_do n (Some m) go f h = f m h
+
+value-at_most : (a b : Expression) (v : Octagon) → IsOctagon v → IsOctagon (at_most_value a b v)
+unfolding at_most_value
+value-at_most a b v h = value-then_do v.dims v.matrix (restrict_at_most v.dims a b) (λ m g. value-restricted v.dims (difference_in v.dims m a b) m g) h
+
+value-below : (a b : Expression) (v : Octagon) → IsOctagon v → IsOctagon (below_value a b v)
+unfolding below_value
+value-below a b v h = value-then_do v.dims v.matrix (restrict_below v.dims a b) (λ m g. value-restricted v.dims (difference_and_one v.dims m a b) m g) h
+
+value-equal : (a b : Expression) (v : Octagon) → IsOctagon v → IsOctagon (equal_value a b v)
+unfolding equal_value
+value-equal a b v h = value-at_most b a (at_most_value a b v) (value-at_most a b v h)
+
+value-different : (a b : Expression) (v : Octagon) → IsOctagon v → IsOctagon (different_value a b v)
+unfolding different_value
+value-different a b v h =
+    octagon-join (below_value a b v) (below_value b a v) (value-below a b v h) (value-below b a v h) (dims-below a b v ∙ sym (dims-below b a v))
+
+value-compare : (r : Relation) (wanted : Bool) (a b : Expression) (v : Octagon) → IsOctagon v → IsOctagon (compare_value r wanted a b v)
+value-compare AtMost true a b v h = value-at_most a b v h
+value-compare AtMost false a b v h = value-below b a v h
+value-compare Below true a b v h = value-below a b v h
+value-compare Below false a b v h = value-at_most b a v h
+value-compare AtLeast true a b v h = value-at_most b a v h
+value-compare AtLeast false a b v h = value-below a b v h
+value-compare Above true a b v h = value-below b a v h
+value-compare Above false a b v h = value-at_most a b v h
+value-compare Equal true a b v h = value-equal a b v h
+value-compare Equal false a b v h = value-different a b v h
+value-compare Different true a b v h = value-different a b v h
+value-compare Different false a b v h = value-equal a b v h
+
+value-constant : (value wanted : Bool) (v : Octagon) → IsOctagon v → IsOctagon (constant_value value wanted v)
+unfolding bottom_value
+value-constant true true v h = h
+value-constant true false v h = tt
+value-constant false true v h = tt
+value-constant false false v h = h
+
+pub value-test_value : (c : Condition) (wanted : Bool) (v : Octagon) → IsOctagon v → IsOctagon (test_value c wanted v)
+unfolding test_value
+value-test_value (Constant value) wanted v h = value-constant value wanted v h
+value-test_value Random wanted v h = h
+value-test_value (Not c) true v h = value-test_value c false v h
+value-test_value (Not c) false v h = value-test_value c true v h
+value-test_value (And c d) true v h = value-test_value d true (test_value c true v) (value-test_value c true v h)
+value-test_value (And c d) false v h =
+    octagon-join (test_value c false v) (test_value d false v) (value-test_value c false v h) (value-test_value d false v h)
+    (dims-test_value c false v ∙ sym (dims-test_value d false v))
+value-test_value (Or c d) true v h =
+    octagon-join (test_value c true v) (test_value d true v) (value-test_value c true v h) (value-test_value d true v h)
+    (dims-test_value c true v ∙ sym (dims-test_value d true v))
+value-test_value (Or c d) false v h = value-test_value d false (test_value c false v) (value-test_value c false v h)
+value-test_value (Compare r a b) wanted v h = value-compare r wanted a b v h

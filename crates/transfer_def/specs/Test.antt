@@ -1,0 +1,77 @@
+-- The test of a condition on a value.
+use Rattle.std.specs.Prelude.{ℕ, Bool, true, false, Option, pos}
+use Rattle.oct_def.specs.Table.{Matrix}
+use Rattle.oct_def.specs.Tight.{tight}
+use Rattle.oct_def.specs.Octagon.{Octagon, bottom_value, join_value}
+use Rattle.interval_form.specs.Expression.{Expression}
+use Rattle.interval_form.specs.Interval.{point, ranges_of}
+use Rattle.interval_form.specs.Form.{Form}
+use Rattle.interval_form.specs.Linear.{constant_form, linear_form, sum_form, difference_form}
+use Rattle.interval_form.specs.FormBounds.{bounded}
+use Rattle.transfer_def.specs.Assign.{then_do}
+use Rattle.transfer_def.specs.Condition.{Relation, AtMost, Below, AtLeast, Above, Equal, Different, Condition, Constant, Random, Not, And, Or, Compare}
+
+-- the form of a - b by the ranges of a matrix over n variables, and the form of a - b + 1
+unfoldable pub difference_in : ℕ → Matrix → Expression → Expression → Form
+difference_in n m a b = difference_form (ranges_of n m) (linear_form (ranges_of n m) a) (linear_form (ranges_of n m) b)
+
+unfoldable pub difference_and_one : ℕ → Matrix → Expression → Expression → Form
+difference_and_one n m a b = sum_form (ranges_of n m) (difference_in n m a b) (constant_form n (point (pos 1)))
+
+-- a matrix over n variables where a form is at most 0
+unfoldable pub restricted : ℕ → Form → Matrix → Option Matrix
+restricted n f m = then_do (bounded (ranges_of n m) f m) tight
+
+-- a value where `a <= b`, and where `a < b`
+abbrev pub restrict_at_most : ℕ → Expression → Expression → Matrix → Option Matrix
+restrict_at_most n a b m = restricted n (difference_in n m a b) m
+
+abbrev pub restrict_below : ℕ → Expression → Expression → Matrix → Option Matrix
+restrict_below n a b m = restricted n (difference_and_one n m a b) m
+
+unfoldable pub at_most_value : Expression → Expression → Octagon → Octagon
+at_most_value a b v = record { dims = v.dims; matrix = then_do v.matrix (restrict_at_most v.dims a b) }
+
+unfoldable pub below_value : Expression → Expression → Octagon → Octagon
+below_value a b v = record { dims = v.dims; matrix = then_do v.matrix (restrict_below v.dims a b) }
+
+-- a value where two expressions are equal, and where they are different
+unfoldable pub equal_value : Expression → Expression → Octagon → Octagon
+equal_value a b v = at_most_value b a (at_most_value a b v)
+
+unfoldable pub different_value : Expression → Expression → Octagon → Octagon
+different_value a b v = join_value (below_value a b v) (below_value b a v)
+
+-- a value where a comparison comes out as wanted
+abbrev pub compare_value : Relation → Bool → Expression → Expression → Octagon → Octagon
+compare_value AtMost true a b v = at_most_value a b v
+compare_value AtMost false a b v = below_value b a v
+compare_value Below true a b v = below_value a b v
+compare_value Below false a b v = at_most_value b a v
+compare_value AtLeast true a b v = at_most_value b a v
+compare_value AtLeast false a b v = below_value a b v
+compare_value Above true a b v = below_value b a v
+compare_value Above false a b v = at_most_value a b v
+compare_value Equal true a b v = equal_value a b v
+compare_value Equal false a b v = different_value a b v
+compare_value Different true a b v = different_value a b v
+compare_value Different false a b v = equal_value a b v
+
+-- a value where a constant is as wanted: the value itself, or Bottom
+abbrev pub constant_value : Bool → Bool → Octagon → Octagon
+constant_value true true v = v
+constant_value true false v = bottom_value v.dims
+constant_value false true v = bottom_value v.dims
+constant_value false false v = v
+
+-- a value where a condition comes out as wanted
+unfoldable pub test_value : Condition → Bool → Octagon → Octagon
+test_value (Constant value) wanted v = constant_value value wanted v
+test_value Random wanted v = v
+test_value (Not c) true v = test_value c false v
+test_value (Not c) false v = test_value c true v
+test_value (And c d) true v = test_value d true (test_value c true v)
+test_value (And c d) false v = join_value (test_value c false v) (test_value d false v)
+test_value (Or c d) true v = join_value (test_value c true v) (test_value d true v)
+test_value (Or c d) false v = test_value d false (test_value c false v)
+test_value (Compare r a b) wanted v = compare_value r wanted a b v
