@@ -1,0 +1,98 @@
+-- Places of a full matrix: rows follow each other, and each place is filled once.
+use Rattle.std.proofs.Common.{◌≡◌, ℕ, ◌+◌, ◌*◌, ◌/◌, ◌%◌, ◌<◌, ◌≤◌, ◌⊎◌, inl, inr, List, [], ◌∷◌, ◌++◌, length, get_or, refl, sym, ap, ◌∙◌, subst, arith}
+use Rattle.std.specs.Prelude.{ℤ, pos}
+use Rattle.std.proofs.Common.{length-append, add-one, Bool, true, false, ◌||◌}
+use Rattle.std.proofs.lemmas.Nat.{mul-add-lt, div-mul-add, mod-mul-add}
+use Rattle.std.proofs.Math.Nat.{mul-le-mul_left}
+use Rattle.std.proofs.lemmas.List.{get_or_push, get_or_read, get_or_append_left}
+use Rattle.oct_def.specs.Bound.{bound_of, word_of}
+use Rattle.oct_def.specs.Table.{Matrix, at, some_index}
+use Rattle.oct_def.specs.Tight.{pair_step, pair_steps}
+use Rattle.oct_def.proofs.Indices.{some_index-each}
+use Rattle.oct_def.specs.Matrix.{IsSquare}
+use Rattle.oct_def.proofs.Tables.{length-table, at-table, square-table}
+use Rattle.oct_def.proofs.WordBounds.{word_of-bound_of}
+use Rattle.full_oct.specs.Words.{word_entry, matrix_of, IsFull}
+
+pub length-matrix_of : (size : ℕ) (words : List ℤ) → length (matrix_of size words) ≡ size
+unfolding matrix_of
+length-matrix_of size words = length-table size (word_entry size words)
+
+pub square-matrix_of : (size : ℕ) (words : List ℤ) → IsSquare (matrix_of size words)
+unfolding matrix_of
+square-matrix_of size words = square-table size (word_entry size words)
+
+pub at-matrix_of : (size : ℕ) (words : List ℤ) (i j : ℕ) → i < size → j < size → at (matrix_of size words) i j ≡ bound_of (get_or words (i * size + j) (pos 0))
+unfolding matrix_of word_entry
+at-matrix_of size words i j p q = at-table size (word_entry size words) i j p q
+
+-- the same of the matrix that a value is seen as
+pub rows_of : (size : ℕ) (words : List ℤ) (m : Matrix) → matrix_of size words ≡ m → size ≡ length m
+rows_of size words m e = sym (length-matrix_of size words) ∙ ap length e
+
+pub square_of : (size : ℕ) (words : List ℤ) (m : Matrix) → matrix_of size words ≡ m → IsSquare m
+square_of size words m e = subst IsSquare e (square-matrix_of size words)
+
+pub place_within : (size : ℕ) (words : List ℤ) (i j : ℕ) → IsFull size words → i < size → j < size → i * size + j < length words
+place_within size words i j f p q = omega (arith, mul-add-lt i size j size p q, f.filled)
+
+-- no place passes 2^63
+pub place_small : (size i j : ℕ) → size ≤ 514 → i < size → j < size → i * size + j < 264196
+place_small size i j s p q =
+    let a = mul-add-lt i size j size p q in
+    let b = mul-le-mul_left size s in
+    omega (arith, a, b)
+
+pub bound_at : (size : ℕ) (words : List ℤ) (m : Matrix) (i j : ℕ) (w : ℤ) → matrix_of size words ≡ m → IsFull size words → i < size → j < size → w ≡ get_or words (i * size + j) w → bound_of w ≡ at m i j
+bound_at size words m i j w e f p q h =
+    ap bound_of (get_or_read words (i * size + j) w (place_within size words i j f p q) h (pos 0))
+    ∙ sym (at-matrix_of size words i j p q) ∙ ap (λ t. at t i j) e
+
+pub word_at : (w : ℤ) (m : Matrix) (i j : ℕ) → bound_of w ≡ at m i j → w ≡ word_of (at m i j)
+word_at w m i j h = sym (word_of-bound_of w) ∙ ap word_of h
+
+-- ---- places filled one after the other
+
+-- each word that is there satisfies what is asked of its row and column
+abbrev pub Filled : ℕ → (ℕ → ℕ → ℤ → Type 0) → List ℤ → Type 0
+Filled size P words = (k : ℕ) → k < length words → P (k / size) (k % size) (get_or words k (pos 0))
+
+pub filled_more : (size : ℕ) (P : ℕ → ℕ → ℤ → Type 0) (words : List ℤ) (i j : ℕ) (w : ℤ) → Filled size P words → length words ≡ i * size + j → j < size → P i j w → Filled size P (words ++ w ∷ [])
+filled_more size P words i j w h e q p k lt = by (k_cases)
+  where
+    k_cases : (k < length words) ⊎ (k ≡ length words)
+    k_cases = let l = length-append words (w ∷ []) in grind (arith, l)
+
+    by : (k < length words) ⊎ (k ≡ length words) → P (k / size) (k % size) (get_or (words ++ w ∷ []) k (pos 0))
+    by (inl r) = subst (P (k / size) (k % size)) (sym (get_or_append_left words (w ∷ []) (pos 0) k r)) (h k r)
+    by (inr r) =
+        let row : i ≡ k / size = sym (ap (λ n. n / size) (r ∙ e) ∙ div-mul-add i size j q) in
+        let column : j ≡ k % size = sym (ap (λ n. n % size) (r ∙ e) ∙ mod-mul-add i size j q) in
+        let word : w ≡ get_or (words ++ w ∷ []) k (pos 0) = sym (get_or_push words w (pos 0) k (sym r)) in
+        subst (λ a. P a (k % size) (get_or (words ++ w ∷ []) k (pos 0))) row
+        (subst (λ b. P i b (get_or (words ++ w ∷ []) k (pos 0))) column (subst (P i j) word p))
+
+-- at the end each place is filled
+pub filled_at : (size : ℕ) (P : ℕ → ℕ → ℤ → Type 0) (words : List ℤ) → Filled size P words → length words ≡ size * size → (i j : ℕ) → i < size → j < size → P i j (get_or words (i * size + j) (pos 0))
+filled_at size P words h e i j p q =
+    let lt : i * size + j < length words = omega (arith, mul-add-lt i size j size p q) in
+    subst (λ a. P a j (get_or words (i * size + j) (pos 0))) (div-mul-add i size j q)
+    (subst (λ b. P ((i * size + j) / size) b (get_or words (i * size + j) (pos 0))) (mod-mul-add i size j q) (h (i * size + j) lt))
+
+-- ---- some index below n, found from 0 upward
+
+pub some_index-more : (n : ℕ) (test : ℕ → Bool) → some_index n test ≡ false → test n ≡ false → some_index (n + 1) test ≡ false
+unfolding some_index
+some_index-more n test h e = rw add-one (ap (λ b. b || some_index n test) e ∙ h)
+
+pub some_index-found : (n : ℕ) (test : ℕ → Bool) (k : ℕ) → k < n → test k ≡ true → some_index n test ≡ true
+some_index-found n test k lt e = by (some_index n test) refl
+  where
+    by : (b : Bool) → some_index n test ≡ b → b ≡ true
+    by true f = refl
+    by false f = let no = some_index-each n test f k lt in cc
+
+-- one step more
+pub pair_steps-more : (n : ℕ) (m : Matrix) → pair_step n (pair_steps n m) ≡ pair_steps (n + 1) m
+unfolding pair_steps
+pair_steps-more n m = rw add-one refl

@@ -1,0 +1,74 @@
+-- Values of the plain domain, from the matrices of the code.
+use Rattle.std.proofs.Common.{◌≡◌, ℕ, ◌+◌, ◌*◌, ◌<◌, Option, Some, None, sym, ap, ◌∙◌, subst}
+use Rattle.std.specs.Prelude.{pos, ◌≤ℤ◌}
+use Rattle.oct_def.specs.Bound.{top_limit}
+use Rattle.oct_def.specs.Table.{Matrix, table}
+use Rattle.oct_def.specs.Matrix.{IsMatrix, IsEvenMatrix}
+use Rattle.oct_def.specs.Tight.{tight}
+use Rattle.oct_def.specs.Octagon.{Octagon, IsOctagon, IsValueOver, top_value, top_matrix, tight_value, tight_option}
+use Rattle.oct_def.proofs.Lattice.{octagon-top}
+use Rattle.oct_def.proofs.Values.{value-tight}
+use Rattle.interval_form.specs.Expression.{Expression, Number, Variable, Add}
+use Rattle.transfer_def.specs.Assign.{then_do, equated, renamed_option, assigned, assign_value}
+use Rattle.transfer_def.specs.Special.{constant_entry, offset_entry}
+use Rattle.transfer_def.proofs.Expressions.{equated-number, equated-variable, equated-plus}
+use Rattle.transfer_def.proofs.Values.{value-assigned}
+use Rattle.full_oct.specs.Value.{octagon_of}
+
+-- a value that is a matrix, and one that is Bottom
+pub kept_matrix : (v : Octagon) (d : ℕ) (m : Matrix) → octagon_of d (Some m) ≡ v → IsOctagon v → IsEvenMatrix d m
+kept_matrix v d m e h = subst IsOctagon (sym e) h
+
+-- a matrix behind a reference
+pub matrix_read : (n : ℕ) (m r : Matrix) → r ≡ m → IsEvenMatrix n m → IsMatrix n r
+matrix_read n m r e h = subst (IsMatrix n) (sym e) h.matrix
+
+-- ---- top
+
+pub top_even : (n : ℕ) (m : Matrix) → m ≡ top_matrix n → IsEvenMatrix n m
+unfolding top_value
+top_even n m e = subst (IsEvenMatrix n) (sym e) (octagon-top n)
+
+pub top_is : (n : ℕ) (m : Matrix) (v : Octagon) → m ≡ top_matrix n → v ≡ octagon_of n (Some m) → v ≡ top_value n
+unfolding top_value
+top_is n m v e h = h ∙ ap (λ t. octagon_of n (Some t)) e
+
+-- ---- the tight closure
+
+pub close_bottom : (d : ℕ) (v : Octagon) → octagon_of d None ≡ v → octagon_of d None ≡ tight_value v
+unfolding tight_value
+close_bottom d v e = ap (λ (t : Octagon). octagon_of t.dims (tight_option t.matrix)) e
+
+pub close_value : (d : ℕ) (m : Matrix) (r : Option Matrix) → IsEvenMatrix d m → r ≡ tight m → IsValueOver d r
+close_value d m r h e = subst (IsValueOver d) (sym e) (value-tight d m h.matrix)
+
+pub close_is : (d : ℕ) (m : Matrix) (r : Option Matrix) (v w : Octagon) → octagon_of d (Some m) ≡ v → r ≡ tight m → w ≡ octagon_of d r → w ≡ tight_value v
+unfolding tight_value
+close_is d m r v w e t h = h ∙ ap (octagon_of d) t ∙ ap (λ (u : Octagon). octagon_of u.dims (tight_option u.matrix)) e
+
+-- ---- assignments
+
+pub assign_bottom : (x d : ℕ) (e : Expression) (v : Octagon) → octagon_of d None ≡ v → octagon_of d None ≡ assign_value x e v
+unfolding assign_value
+assign_bottom x d e v h = ap (λ (t : Octagon). octagon_of t.dims (then_do t.matrix (assigned t.dims x e))) h
+
+pub assign_kept : (x d : ℕ) (e : Expression) (m : Matrix) (r : Option Matrix) → IsEvenMatrix d m → r ≡ assigned d x e m → IsValueOver d r
+assign_kept x d e m r h a = subst (IsValueOver d) (sym a) (value-assigned d x e m h)
+
+pub assign_is : (x d : ℕ) (e : Expression) (m : Matrix) (r : Option Matrix) (v w : Octagon) → octagon_of d (Some m) ≡ v → r ≡ assigned d x e m → w ≡ octagon_of d r → w ≡ assign_value x e v
+unfolding assign_value
+assign_is x d e m r v w h a k = k ∙ ap (octagon_of d) a ∙ ap (λ (t : Octagon). octagon_of t.dims (then_do t.matrix (assigned t.dims x e))) h
+
+-- an assignment closes the equated matrix
+assigned_by : (n x : ℕ) (e : Expression) (m q : Matrix) (r : Option Matrix) → equated n e m ≡ Some q → r ≡ renamed_option n x (tight q) → r ≡ assigned n x e m
+unfolding assigned
+assigned_by n x e m q r h k = k ∙ sym (ap (λ t. renamed_option n x (then_do t tight)) h)
+
+pub number_assigned : (n x c : ℕ) (m q : Matrix) (r : Option Matrix) → pos c ≤ℤ top_limit → q ≡ table (2 * (n + 1)) (constant_entry n (pos c) m) → r ≡ renamed_option n x (tight q) → r ≡ assigned n x (Number c) m
+number_assigned n x c m q r l e k = assigned_by n x (Number c) m q r (equated-number n c m l ∙ ap Some (sym e)) k
+
+pub copy_assigned : (n x y : ℕ) (m q : Matrix) (r : Option Matrix) → y < n → IsMatrix n m → q ≡ table (2 * (n + 1)) (offset_entry n y (pos 0) m) → r ≡ renamed_option n x (tight q) → r ≡ assigned n x (Variable y) m
+copy_assigned n x y m q r l v e k = assigned_by n x (Variable y) m q r (equated-variable n y m l v ∙ ap Some (sym e)) k
+
+pub sum_assigned : (n x y c : ℕ) (m q : Matrix) (r : Option Matrix) → y < n → pos c ≤ℤ top_limit → IsMatrix n m → q ≡ table (2 * (n + 1)) (offset_entry n y (pos c) m) → r ≡ renamed_option n x (tight q) → r ≡ assigned n x (Add (Variable y) (Number c)) m
+sum_assigned n x y c m q r l t v e k = assigned_by n x (Add (Variable y) (Number c)) m q r (equated-plus n y c m l t v ∙ ap Some (sym e)) k

@@ -1,0 +1,86 @@
+// A full matrix of words: one word for each place, row after row. One builder carries every loop over the places.
+ghost use Rattle.std.specs.Prelude.{◌≡◌, ℕ, ◌+◌, ◌*◌, ◌/◌, ◌%◌, ◌<◌, ◌≤◌, IfOk, length, ℤ, pos, slice_index_or};
+ghost use Rattle.oct_def.specs.Bound.{bound_of, word_of};
+ghost use Rattle.oct_def.specs.Table.{at};
+ghost use Rattle.oct_def.specs.Matrix.{IsSquare};
+
+use oct_def::NoMemory;
+use std::alloc::Global;
+use std::marker::Model;
+
+/// A square matrix of bounds over the signed dimensions of at most 257 variables: eight bytes for each entry.
+#[derive(Drop)]
+pub struct FullMatrix {
+    size: usize,
+    words: Vec<i64>,
+}
+
+impl Model for FullMatrix {
+    ghost use Rattle.oct_def.specs.Table.{Matrix};
+    ghost use Rattle.full_oct.specs.Words.{matrix_of, IsFull};
+
+    ghost Value = { Matrix };
+
+    ghost view = { λ m. matrix_of m.size m.words.items };
+
+    ghost invariant = { λ m. IsFull m.size m.words.items };
+}
+
+impl FullMatrix {
+    /// The number of rows.
+    pub fn size(&self) -> usize
+        ensures rows { result ≡ length self.now }
+        ensures square { IsSquare self.now }
+        ensures even { result % 2 ≡ 0 }
+        ensures small { result ≤ 514 }
+    {
+        self.size
+    }
+
+    /// The word at row i and column j.
+    pub fn word(&self, i: usize, j: usize) -> i64
+        requires row { i < length self.now }
+        requires column { j < length self.now }
+        ensures word { result ≡ word_of (at self.now i j) }
+        ensures bound { bound_of result ≡ at self.now i j }
+    {
+        self.words[i * self.size + j]
+    }
+
+    /// The matrix of `size` rows whose word at row i and column j is `entry(i, j)`. It takes the memory of its words.
+    pub fn tabulated<F: Fn(usize, usize) -> i64>(
+        alloc: Global,
+        size: usize,
+        entry: F,
+    ) -> Result<FullMatrix, NoMemory>
+        requires even { size % 2 ≡ 0 }
+        requires small { size ≤ 514 }
+        requires callable { (i j : ℕ) → i < size → j < size → F.pre entry i j }
+        ensures rows { IfOk result (λ m. length m ≡ size) }
+        ensures square { IfOk result (λ m. IsSquare m) }
+        ensures entries { IfOk result (λ m. (i j : ℕ) → i < size → j < size → (w : ℤ) × F.post entry i j w × (bound_of w ≡ at m i j)) }
+    {
+        let words = filled(alloc, size, entry)?;
+        Ok(FullMatrix { size, words })
+    }
+}
+
+// The words of all places, row after row.
+fn filled<F: Fn(usize, usize) -> i64>(
+    alloc: Global,
+    size: usize,
+    entry: F,
+) -> Result<Vec<i64>, NoMemory>
+    requires small { size ≤ 514 }
+    requires callable { (i j : ℕ) → i < size → j < size → F.pre entry i j }
+    ensures filled { IfOk result (λ v. length v.items ≡ size * size) }
+    ensures entries { IfOk result (λ v. (i j : ℕ) → i < size → j < size → F.post entry i j (slice_index_or v.items (i * size + j) (pos 0))) }
+{
+    let mut words = Vec::with_capacity(alloc, size * size)?;
+    'rows: for i in 0..size {
+        'columns: for j in 0..size {
+            words.push(entry(i, j))?;
+        }
+    }
+    Ok(words)
+}
