@@ -1,0 +1,12 @@
+pub mod Analysis
+pub mod Call
+pub mod Cause
+pub mod Command
+pub mod Constraint
+pub mod ConstraintText
+pub mod Listed
+pub mod Names
+pub mod Readable
+pub mod Report
+pub mod Runs
+pub mod Sound
