@@ -1,0 +1,13 @@
+-- Each arm is the machine's step.
+use Rattle.spl_parser.specs.Machine as m
+use Rattle.spl_parser.specs.Trees.{trees}
+use Rattle.spl_tree.specs.Lists.{lists_of}
+use Rattle.spl_parser.proofs.Refusals.{refuses_decl_next}
+use Rattle.spl_parser.proofs.NameArms.{decl_next_arm}
+use Rattle.spl_parser.proofs.heads.at_decl_next.Goals as goal
+
+pub returns-in_ok-name-in-Name : goal.returns-in_ok-name-in-Name
+returns-in_ok-name-in-Name c = decl_next_arm c.args.bytes.now (lists_of c.args.parts.now) (lists_of c.read_word.new.parts) c.args.token c.args.goal c.args.before c.in_ok-name-in-Name.name c.in-Name.is c.requires.token c.requires.ready c.in_ok-name-in-Name.ensures
+
+pub returns-in_default : goal.returns-in_default
+returns-in_default c = refuses_decl_next (trees c.args.bytes.now) _ _ c.args.token.kind (m.leaf_of c.args.token) c.in_default.not-Name

@@ -1,0 +1,148 @@
+//! Steps over expressions.
+
+ghost use Rattle.std.specs.Prelude.{◌≡◌, ◌<◌, ◌≤◌, ◌+◌, ◌*◌, ◌^◌, length, List, ℕ, IfOk, [], ◌∷◌, ◌++◌};
+ghost use Rattle.spl_tree.specs.Lists.{lists_of};
+ghost use Rattle.spl_parser.specs.View.{Ready, TokenIn, Steps, IsFresh, AddsMinus, AddsNot, nothing_within};
+
+use crate::growing::add_expr;
+use crate::state::{Body, Goal, Pending, State, Stop, Word};
+use crate::words::read_word;
+use spl_text::{Token, TokenKind};
+use spl_tree::{Expr, TreeParts};
+use std::alloc::{AllocError, Global};
+
+/// Nothing before an operand.
+pub fn nothing_before(alloc: Global) -> Pending
+    ensures { IsFresh result }
+{
+    Pending {
+        either: None,
+        both: None,
+        nots: Vec::new(alloc),
+        comparison: None,
+        sum: None,
+        product: None,
+        minuses: Vec::new(alloc),
+    }
+}
+
+/// Opens a parenthesis before which this stands.
+fn with_paren(mut parens: Vec<Pending>, pending: Pending) -> Result<Vec<Pending>, AllocError>
+    ensures { IfOk result (λ ps. ps.items ≡ parens.items ++ pending ∷ []) }
+{
+    parens.push(pending)?;
+    Ok(parens)
+}
+
+/// Adds a place at the end.
+fn with_place(mut places: Vec<usize>, place: usize) -> Result<Vec<usize>, AllocError>
+    ensures { IfOk result (λ v. v.items ≡ places.items ++ place ∷ []) }
+{
+    places.push(place)?;
+    Ok(places)
+}
+
+/// Where an operand is wanted.
+pub fn at_want(
+    parts: &mut TreeParts,
+    alloc: Global,
+    bytes: &[u8],
+    body: Body,
+    goal: Goal,
+    parens: Vec<Pending>,
+    pending: Pending,
+    token: Token,
+) -> Result<State, Stop>
+    requires ready { Ready token.start (lists_of parts.old) (State.Want body goal parens pending) }
+    requires token { TokenIn token }
+    requires inside { token.end ≤ length bytes.now }
+    ensures { Steps bytes.now (lists_of parts.old) (State.Want body goal parens pending) token (lists_of parts.new) result }
+{
+    match token.kind {
+        TokenKind::Number(n) => {
+            let atom = add_expr(parts, Expr::Number(n), token.start)?;
+            Ok(State::Have(body, goal, parens, pending, atom))
+        }
+        TokenKind::Name => {
+            let word = read_word(parts, bytes, token)?;
+            let atom = add_expr(parts, Expr::Variable(word.name), word.at)?;
+            Ok(State::Have(body, goal, parens, pending, atom))
+        }
+        TokenKind::True => {
+            let atom = add_expr(parts, Expr::True, token.start)?;
+            Ok(State::Have(body, goal, parens, pending, atom))
+        }
+        TokenKind::False => {
+            let atom = add_expr(parts, Expr::False, token.start)?;
+            Ok(State::Have(body, goal, parens, pending, atom))
+        }
+        TokenKind::Random => {
+            let atom = add_expr(parts, Expr::Random, token.start)?;
+            Ok(State::Have(body, goal, parens, pending, atom))
+        }
+        TokenKind::Brandom => {
+            let atom = add_expr(parts, Expr::Random, token.start)?;
+            Ok(State::Have(body, goal, parens, pending, atom))
+        }
+        TokenKind::LeftParen => {
+            let outer = with_paren(parens, pending)?;
+            Ok(State::Want(body, goal, outer, nothing_before(alloc)))
+        }
+        TokenKind::Minus => {
+            let next = with_minus(pending, token.start)?;
+            Ok(State::Want(body, goal, parens, next))
+        }
+        TokenKind::Not => {
+            if !takes_not(&pending) {
+                return Err(Stop::Syntax);
+            }
+            let next = with_not(pending, token.start)?;
+            Ok(State::Want(body, goal, parens, next))
+        }
+        _ => Err(Stop::Syntax),
+    }
+}
+
+/// Whether a negation may stand before this operand: nothing of a narrower level waits.
+fn takes_not(pending: &Pending) -> bool
+    ensures { result ≡ nothing_within pending.now }
+{
+    match (pending.comparison, pending.sum, pending.product) {
+        (None, None, None) => pending.minuses.is_empty(),
+        (None, None, Some(_)) => false,
+        (None, Some(_), _) => false,
+        (Some(_), _, _) => false,
+    }
+}
+
+/// One more minus sign before an operand.
+fn with_minus(pending: Pending, place: usize) -> Result<Pending, AllocError>
+    ensures { IfOk result (λ p. AddsMinus pending place p) }
+{
+    let minuses = with_place(pending.minuses, place)?;
+    Ok(Pending {
+        either: pending.either,
+        both: pending.both,
+        nots: pending.nots,
+        comparison: pending.comparison,
+        sum: pending.sum,
+        product: pending.product,
+        minuses,
+    })
+}
+
+/// One more negation before an operand.
+fn with_not(pending: Pending, place: usize) -> Result<Pending, AllocError>
+    ensures { IfOk result (λ p. AddsNot pending place p) }
+{
+    let nots = with_place(pending.nots, place)?;
+    Ok(Pending {
+        either: pending.either,
+        both: pending.both,
+        nots,
+        comparison: pending.comparison,
+        sum: pending.sum,
+        product: pending.product,
+        minuses: pending.minuses,
+    })
+}
