@@ -10,6 +10,7 @@ use Rattle.spl_tree.specs.declared.parts.Decl.{Decl}
 use Rattle.spl_tree.specs.declared.parts.DeclAt.{DeclAt}
 use Rattle.spl_tree.specs.declared.parts.DeclKind.{DeclKind}
 use Rattle.spl_tree.specs.declared.parts.DeclKind.TheVariants.{Int, Real, Named as NamedKind}
+use Rattle.spl_tree.specs.declared.parts.MainTree.{MainTree}
 use Rattle.spl_tree.specs.declared.parts.ProcTree.{ProcTree}
 use Rattle.spl_tree.specs.declared.parts.ProcAt.{ProcAt}
 use Rattle.spl_tree.specs.declared.parts.Expr.{Expr}
@@ -22,7 +23,7 @@ use Rattle.spl_tree.specs.Facts.{Each, IsPlace, HasName, HasBlock, HasSecond, Ha
 use Rattle.spl_tree.specs.Program.{Named, Declared, ExprTree, number, StmtTree, empty, ProcMeaning}
 use Rattle.spl_tree.specs.Meaning.{span_of, name_of, named_of, declared_of, decls_of, expr_at, expr_over, exprs_after, Ground, block_after, block_over, stmt_over, stmts_after, names_in, exprs_in, named_in, decls_in, ground_in, stmts_in, decls_over, proc_over, procs_of}
 use Rattle.std.proofs.Math.Seq.{drop-append_seam, take-length}
-use Rattle.spl_parser.specs.Growth.{Grown, grown, ground_of, IdsIn, BlockIn, NameIn, SecondIn, ExprIn, KindIn, DeclIn, StmtIn, ProcIn, Grew}
+use Rattle.spl_parser.specs.Growth.{Grown, grown, ground_of, IdsIn, BlockIn, DeclsIn, NameIn, SecondIn, ExprIn, KindIn, DeclIn, StmtIn, ProcIn, Grew}
 use Rattle.spl_parser.proofs.Grow.{each_head, each_tail, each_more, each_push, each_append, span_stays, bytes_stay, name_stays, ExprNames, exprs_stay, named_stay, KindNames, DeclNames, decls_stay, GroundGrows, StmtIn as StmtOver, SecondIn as SecondOver, stmts_stay, block_stays, length-exprs, length-stmts, length-named, length-decls, exprs-push, stmts-push, named-push, decls-push, procs-push}
 
 -- lists that hold at least as much
@@ -506,6 +507,27 @@ pub record Lengths (t : Lists) : Type 0 where
 pub lengths : (t : Lists) → IsTree t → Lengths t
 unfolding grown
 lengths t w = record { names = length-names_in t; exprs = length-exprs_in t w; named = length-named_in t w; decls = length-decls_in t w; stmts = length-stmts_in t w; blocks = refl; procs = length-procs (names_in t) (decls_in t) t.stmt_items (stmts_in t) t.procs t.proc_places w.placed.proc_count }
+
+-- the parts with what main is
+pub tree-with_main : (t : Lists) (main : MainTree) (begin : ℕ) → IsTree t → DeclsIn (grown t) main.locals → IsPlace begin → BlockIn (grown t) main.body → IsTree (record t { main = main; main_begin = begin })
+tree-with_main t main begin w locals placed body =
+    let u : Lists = record t { main = main; main_begin = begin } in
+    let big : Bigger t u = record { letters = omega arith; names = omega arith; decls = omega arith; exprs = omega arith; stmts = omega arith; named = omega arith; blocks = omega arith; same = λ i d lt. refl } in
+    record {
+      few = record { letters = w.few.letters; names = w.few.names; decls = w.few.decls; procs = w.few.procs; exprs = w.few.exprs; stmts = w.few.stmts; name_items = w.few.name_items; stmt_items = w.few.stmt_items };
+      placed = record { decl_count = w.placed.decl_count; decls = w.placed.decls; proc_count = w.placed.proc_count; procs = w.placed.procs; expr_count = w.placed.expr_count; exprs = w.placed.exprs; stmt_count = w.placed.stmt_count; stmts = w.placed.stmts; name_item_count = w.placed.name_item_count; name_items = w.placed.name_items; main = placed };
+      in_range = record {
+        names = w.in_range.names;
+        decls = each_more (λ k d. DeclFits t d) (λ k x. DeclFits u x) t.decls w.in_range.decls (λ k x h. decl_grows t u x big h);
+        procs = each_more (λ k p. ProcFits t p) (λ k x. ProcFits u x) t.procs w.in_range.procs (λ k x h. proc_grows t u x big h);
+        exprs = each_more (ExprFits t) (ExprFits u) t.exprs w.in_range.exprs (λ k x h. expr_grows t u k x big h);
+        stmts = each_more (StmtFits t) (StmtFits u) t.stmts w.in_range.stmts (λ k x h. stmt_grows t u k x big h);
+        name_items = w.in_range.name_items;
+        stmt_items = w.in_range.stmt_items;
+        locals = omega (arith, locals, (lengths t w).decls);
+        body = block_grows t u (length t.stmts) (length u.stmts) main.body big (omega arith) (block_fits t main.body w body);
+      };
+    }
 
 -- each kind of growth
 pub grew-with_name : (t : Lists) (bytes : List ℕ) → IsTree t → (grown t).letters + length bytes ≤ 2 ^ 20 → length (grown t).names < 2 ^ 20 → Grew (with_name t bytes) (record (grown t) { letters = (grown t).letters + length bytes; names = (grown t).names ++ bytes ∷ [] })

@@ -22,3 +22,7 @@ pub mod StmtArms
 pub mod HaveArms
 pub mod Parens
 pub mod BodyArms
+pub mod StepArms
+pub mod FreshArms
+pub mod NestArms
+pub mod Reading

@@ -6,3 +6,4 @@ pub mod Machine
 pub mod Trees
 pub mod Growth
 pub mod View
+pub mod Reading

@@ -60,7 +60,7 @@ fn with_id(mut ids: Vec<StmtId>, id: StmtId) -> Result<Vec<StmtId>, AllocError>
 }
 
 /// Adds an open block at the end.
-fn with_frame(mut frames: Vec<Frame>, frame: Frame) -> Result<Vec<Frame>, AllocError>
+pub fn with_frame(mut frames: Vec<Frame>, frame: Frame) -> Result<Vec<Frame>, AllocError>
     ensures { IfOk result (λ v. v.items ≡ frames.items ++ frame ∷ []) }
 {
     frames.push(frame)?;

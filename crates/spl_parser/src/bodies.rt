@@ -89,7 +89,7 @@ pub fn at_call_after(
 }
 
 /// The statement that a conditional or a loop is, in its body. Its last place is this end.
-fn finish_closed(
+pub fn finish_closed(
     parts: &mut TreeParts,
     body: Body,
     closed: Closed,
@@ -122,7 +122,7 @@ fn finish_closed(
 }
 
 /// Where the last word of a conditional or a loop ends.
-fn word_end(closed: Closed) -> usize
+pub fn word_end(closed: Closed) -> usize
     ensures { result ≡ closed_word closed }
 {
     match closed {

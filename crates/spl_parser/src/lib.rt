@@ -14,10 +14,17 @@ mod exprs;
 mod growing;
 mod heads;
 mod lists;
+mod nesting;
 mod operands;
 mod operators;
+mod parsing;
 mod state;
+mod steps;
+#[cfg(test)]
+mod tests;
 mod words;
+
+pub use parsing::{ParseFault, parse};
 
 /// The grammar is unambiguous: a list of tokens has at most one derivation.
 pub fn law_one_derivation()

@@ -1,0 +1,24 @@
+-- No other block ends here.
+use Rattle.std.proofs.Common.{ap, refl, rules}
+use Rattle.spl_tree.specs.Lists.{lists_of}
+use Rattle.spl_parser.specs.Growth.{grown}
+use Rattle.spl_parser.specs.Machine.{on_done}
+use Rattle.spl_parser.specs.View.{stacked, frame_of}
+use Rattle.spl_parser.proofs.Parens.{no_parens}
+use Rattle.spl_parser.proofs.NestArms.{innermost, at_done_word, adds_slice, while_arm}
+use Rattle.spl_parser.proofs.nesting.at_done.Goals as goal
+
+pub returns-in-Some-Then : goal.returns-in-Some-Then
+unfolding on_done
+returns-in-Some-Then c = λ source. at_done_word source (grown (lists_of c.args.parts.now)) c.args.body c.args.token _ c.requires.kind (innermost source (grown (lists_of c.args.parts.now)) c.args.body c.pop.new.self.items c.in-Some-Then.field-0 _ c.in-Some-Then.ensures.items c.in-Some-Then.field-0-is)
+
+pub returns-in-Some-Else : goal.returns-in-Some-Else
+unfolding on_done
+returns-in-Some-Else c = λ source. at_done_word source (grown (lists_of c.args.parts.now)) c.args.body c.args.token _ c.requires.kind (innermost source (grown (lists_of c.args.parts.now)) c.args.body c.pop.new.self.items c.in-Some-Else.field-0 _ c.in-Some-Else.ensures.items c.in-Some-Else.field-0-is)
+
+pub returns-in-None : goal.returns-in-None
+unfolding on_done
+returns-in-None c = λ source. at_done_word source (grown (lists_of c.args.parts.now)) c.args.body c.args.token _ c.requires.kind (ap (λ l. stacked (frame_of source (grown (lists_of c.args.parts.now))) l) (no_parens c.args.body.frames.items (search rules)))
+
+pub returns-in_ok-block-in-Some-While : goal.returns-in_ok-block-in-Some-While
+returns-in_ok-block-in-Some-While c = λ source. while_arm source (lists_of c.args.parts.now) (lists_of c.add_block.new.parts) c.args.token c.args.body _ c.pop.new.self.items c.in-Some-While.field-0 c.in-Some-While.outer c.in-Some-While.start c.in-Some-While.condition c.in-Some-While.first c.in_ok-block-in-Some-While.block c.requires.kind c.in-Some-While.ensures.items c.in-Some-While.field-0-is c.requires.token c.requires.ready (adds_slice (lists_of c.args.parts.now) (lists_of c.add_block.new.parts) c.args.body.stmts.items c.deref.result.now c.in_ok-block-in-Some-While.block (search rules) c.requires.ready.there.stmts c.in_ok-block-in-Some-While.ensures.first c.in_ok-block-in-Some-While.ensures.count c.in_ok-block-in-Some-While.ensures.grew) refl refl refl refl refl
