@@ -2,3 +2,4 @@ pub mod Lists
 pub mod Facts
 pub mod Program
 pub mod Meaning
+pub mod Laws

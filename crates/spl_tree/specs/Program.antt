@@ -121,3 +121,26 @@ placeless p = record {
 -- two programs that agree in everything but offsets
 abbrev pub SamePlacesAside : Program → Program → Type 0
 SamePlacesAside p q = placeless p ≡ placeless q
+
+-- the place of an expression
+abbrev pub place_of : ExprTree → ℕ
+place_of (number n at) = at
+place_of (variable n at) = at
+place_of (true_value at) = at
+place_of (false_value at) = at
+place_of (random_value at) = at
+place_of (negative a at) = at
+place_of (opposite a at) = at
+place_of (binary op a b at) = at
+
+-- the places of a statement
+abbrev pub places_of : StmtTree → StmtAt
+places_of (skip at) = at
+places_of (halt at) = at
+places_of (fail at) = at
+places_of (assume e at) = at
+places_of (assign x e at) = at
+places_of (call targets called args at) = at
+places_of (if_then e a at) = at
+places_of (if_else e a b at) = at
+places_of (while_do e a at) = at

@@ -6,9 +6,11 @@
 //! nodes are numbered makes no difference above this crate.
 #![tactic(auto)]
 
+mod laws;
 mod parts;
 mod tree;
 
+pub use laws::law_numbers;
 pub use parts::{
     BinOp, Block, Decl, DeclAt, DeclKind, DeclList, Expr, ExprId, MainTree, NameId, NameList,
     NameSpan, ProcAt, ProcTree, Stmt, StmtAt, StmtId, TreeParts,
