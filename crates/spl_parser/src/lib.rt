@@ -10,6 +10,8 @@ ghost use Rattle.spl_parser.specs.Derives.{Derives};
 
 mod blocks;
 mod bodies;
+#[cfg(test)]
+mod edit_tests;
 mod exprs;
 mod growing;
 mod heads;

@@ -247,7 +247,7 @@ fn answer(alloc: Global, text: &[u8], whole: bool) -> Result<String, AllocError>
 }
 
 /// Ends the test where the answer for a text is another one.
-fn expect_answer(
+pub fn expect_answer(
     rt: &impl Abort,
     alloc: Global,
     text: &[u8],
