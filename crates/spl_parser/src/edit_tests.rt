@@ -83,13 +83,13 @@ fn edited(alloc: Global, place: usize, words: &str) -> Result<Vec<u8>, AllocErro
 
 /// Where the word with a number starts; the end of the text, where there are fewer words.
 fn start_of(text: &[u8], number: usize) -> usize {
-    let mut blanks = 0;
+    let mut left = number;
     for (offset, byte) in text.iter().enumerate() {
-        if blanks == number {
+        if left == 0 {
             return offset;
         }
         if *byte == b' ' {
-            blanks += 1;
+            left -= 1;
         }
     }
     text.len()
