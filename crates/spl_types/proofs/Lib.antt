@@ -1,1 +1,14 @@
 pub mod Worked
+pub mod Firsts
+pub mod Places
+pub mod Numbering
+pub mod Waiting
+pub mod Copying
+pub mod Calling
+pub mod Lookups
+pub mod Blocks
+pub mod Branches
+pub mod Declaring
+pub mod Procedures
+pub mod Accepting
+pub mod NamesSoFar

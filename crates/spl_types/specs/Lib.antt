@@ -1,3 +1,10 @@
 pub mod Checks
 pub mod Dimensions
 pub mod Examples
+pub mod Faults
+pub mod Tables
+pub mod Sorts
+pub mod Walking
+pub mod Routines
+pub mod Accepted
+pub mod Naming

@@ -1,8 +1,26 @@
 //! The checks of a program beyond its grammar: names, kinds, counts and limits.
 #![tactic(auto)]
 
+mod calls;
+mod checked;
+mod decls;
+mod demands;
+mod exprs;
 mod fault;
 mod laws;
+mod names;
+mod nodes;
+mod routines;
+mod scope;
+mod stmts;
+mod tables;
+mod targets;
+#[cfg(test)]
+mod tests;
+mod walk;
 
+pub use checked::{Checked, check};
 pub use fault::{CheckFault, CheckRule};
 pub use laws::law_examples;
+pub use names::Names;
+pub use tables::NoMemory;
