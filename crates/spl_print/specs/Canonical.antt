@@ -1,10 +1,9 @@
 -- The canonical text of a program: its lines in order, and the report that they make with what is noted of each point.
-use Rattle.std.specs.Prelude.{ℕ, ◌+◌, ◌*◌, nat_lt, if◌then◌else◌, List, [], ◌∷◌, ◌++◌, map, codes, decimal, replicate}
+use Rattle.std.specs.Prelude.{ℕ, ◌+◌, nat_lt, if◌then◌else◌, List, [], ◌∷◌, ◌++◌, map, codes, decimal, replicate}
 use Rattle.std.specs.List.{flat_map}
 use Rattle.spl_text.specs.Place.{line_of, column_of}
 use Rattle.spl_tree.specs.declared.parts.BinOp.{BinOp}
 use Rattle.spl_tree.specs.declared.parts.BinOp.TheVariants.{Or, And, Eq, Ne, Lt, Le, Gt, Ge, Add, Sub, Mul, Div, Rem}
-use Rattle.spl_tree.specs.declared.parts.StmtAt.{StmtAt}
 use Rattle.spl_tree.specs.Program.{Named, Kind, int_kind, real_kind, other_kind, Declared, ExprTree, number, variable, true_value, false_value, random_value, negative, opposite, binary, StmtTree, skip, halt, fail, assume, assign, call, if_then, if_else, while_do, BlockTree, empty, more, ProcMeaning, Program, places_of}
 
 -- texts one after the other, with `, ` between two

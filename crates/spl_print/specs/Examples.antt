@@ -1,9 +1,8 @@
 -- Worked programs: the texts that are written of them.
-use Rattle.std.specs.Prelude.{◌≡◌, ℕ, ◌+◌, List, [], ◌∷◌, codes}
+use Rattle.std.specs.Prelude.{◌≡◌, ℕ, List, [], ◌∷◌, codes}
 use Rattle.spl_tree.specs.declared.parts.BinOp.TheVariants.{Or, And, Lt, Add, Sub, Mul}
-use Rattle.spl_tree.specs.declared.parts.StmtAt.{StmtAt}
-use Rattle.spl_tree.specs.Program.{Named, Declared, int_kind, ExprTree, number, variable, negative, opposite, binary, StmtTree, assign, call, if_then, if_else, BlockTree, empty, more, ProcMeaning, Program}
-use Rattle.spl_print.specs.Canonical.{expr_text, targets_text, Noted, canonical}
+use Rattle.spl_tree.specs.Program.{int_kind, ExprTree, number, variable, negative, opposite, binary, assign, if_then, empty, more, Program}
+use Rattle.spl_print.specs.Canonical.{expr_text, targets_text, canonical}
 
 abbrev pub variable_x : ExprTree
 variable_x = variable (codes "x") 0
