@@ -1,0 +1,16 @@
+pub mod Lexemes
+pub mod Fit
+pub mod Moved
+pub mod Words
+pub mod Comments
+pub mod Numerals
+pub mod Splits
+pub mod Operands
+pub mod NameLists
+pub mod Statements
+pub mod Texts
+pub mod Written
+pub mod Limits
+pub mod Sources
+pub mod Unbroken
+pub mod ReadingBack
