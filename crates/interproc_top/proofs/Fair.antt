@@ -1,16 +1,40 @@
 -- Where the outside is fair, each end of a call but the wanted one is ruled out by its cause.
-use Rattle.std.proofs.Common.{◌≡◌, ◌⊎◌, ℕ, ◌<◌, ◌≤◌, List, length, Some, None, Ok, Err, ◌++◌, ◌+◌, refl, sym, ap, ◌∙◌, subst, inl, inr, arith, length-append}
+use Rattle.std.proofs.Common.{◌≡◌, ◌⊎◌, ℕ, ◌<◌, ◌≤◌, List, length, Option, Some, None, Ok, Err, ◌++◌, ◌+◌, refl, sym, ap, ◌∙◌, subst, inl, inr, arith, length-append}
 use Rattle.std.specs.FinMap as map
 use Rattle.std.specs.Io.KnownBytes.{Appends}
 use Rattle.spl_io.specs.Counts.{Rose}
 use Rattle.spl_io.specs.Store.{Store, Told, Lacks, Has, IsLong, most_bytes}
-use Rattle.spl_text.specs.SmallProgram.{Reading, IsSmall, IsNotSmall, HasOneReading}
+use Rattle.spl_text.specs.declared.token.Token.{Token}
+use Rattle.spl_tree.specs.Program.{Program}
+use Rattle.spl_parser.specs.Derives.{Derives}
+use Rattle.spl_types.specs.Checks.{broken_rule}
+use Rattle.small_program.specs.Reading.{Reading, reading_of}
+use Rattle.spl_text.specs.TextRules.{HasOneCut, HasOneFault, EachTextHasOneReading}
+use Rattle.interproc_top.specs.Accepted.{IsTokenized, IsParsed, IsAccepted, BreaksAt}
+use Rattle.interproc_top.specs.Reported.{IsReportOf}
+use Rattle.interproc_top.specs.declared.cause.Rule.{Rule}
+use Rattle.interproc_top.specs.declared.cause.Rule.TheVariants as rule
 use Rattle.interproc_top.specs.Call.{Call, End, Ends, IsRead, IsWritten, IsFair, Answers, Completes, status_at}
 use Rattle.interproc_top.specs.Command.{NamesFile, NamesAFile}
 use Rattle.interproc_top.specs.Report.{report}
 use Rattle.interproc_top.specs.declared.cause.Cause.TheVariants as cause
 use Rattle.interproc_top.specs.declared.cause.Status.{Status}
 use Rattle.interproc_top.specs.declared.cause.Status.TheVariants as status
+
+-- the bytes have one list of tokens, and these derive one program
+pub record OneReading : Type 0 where
+  pub tokens : (bytes : List ℕ) (a b : List Token) → IsTokenized bytes a → IsTokenized bytes b → a ≡ b
+  pub program : (bytes : List ℕ) (tokens : List Token) (p q : Program) → Derives bytes tokens p → Derives bytes tokens q → p ≡ q
+
+one_tokens : EachTextHasOneReading → (bytes : List ℕ) (a b : List Token) → IsTokenized bytes a → IsTokenized bytes b → a ≡ b
+one_tokens each bytes a b p q = by (each bytes)
+  where
+    by : HasOneCut bytes ⊎ HasOneFault bytes → a ≡ b
+    by (inl cut) = cut.only a p.cut ∙ sym (cut.only b q.cut)
+    by (inr fault) = absurd (p.unbroken fault.rule fault.at fault.fault.broken)
+
+pub one_reading : EachTextHasOneReading → ((bytes : List ℕ) (tokens : List Token) (p q : Program) → Derives bytes tokens p → Derives bytes tokens q → p ≡ q) → OneReading
+one_reading each program = record { tokens = one_tokens each; program = program }
 
 -- the words name one file
 same_name : (words : List (List ℕ)) (a b : List ℕ) → NamesFile words a → NamesFile words b → a ≡ b
@@ -60,59 +84,73 @@ too_long call bytes name left fair named long =
 
 -- ---- the end of a fair call
 
-abbrev Whole : Status → Call → List ℕ → Reading → Type 0
-Whole answer call bytes r =
-    ((answer ≡ status.Proved) × Appends call.out_before call.out_now (report bytes r)) ⊎ (answer ≡ status.NoMemory)
+-- the bytes have one list of tokens and one program
+same_program : OneReading → (bytes : List ℕ) (p q : Program) → IsParsed bytes p → IsParsed bytes q → p ≡ q
+same_program one bytes p q a b = one.program bytes b.tokens p q (subst (λ ts. Derives bytes ts p) (one.tokens bytes a.tokens b.tokens a.tokenized b.tokenized) a.derives) b.derives
 
-written : (call : Call) (bytes : List ℕ) (r : Reading) → HasOneReading → IsFair call bytes → IsSmall bytes r → IsWritten call → Appends call.out_before call.out_now (report bytes r)
-written call bytes r unique fair small w =
-    let rep = w.report in
-    let e : rep.bytes ≡ bytes = sym (read_fair call bytes rep.bytes fair rep.read) in
-    let small' : IsSmall bytes rep.reading = subst (λ b. IsSmall b rep.reading) e rep.small in
-    let f : rep.reading ≡ r = unique bytes rep.reading r small' small in
-    let t : w.text ≡ report bytes r = rep.is ∙ ap (λ b. report b rep.reading) e ∙ ap (report bytes) f in
-    subst (Appends call.out_before call.out_now) t w.whole
+-- what is accepted breaks no rule
+not_broken : OneReading → (bytes : List ℕ) (p : Program) (rule : Rule) (at : ℕ) → IsAccepted bytes p → BreaksAt bytes rule at → ⊥
+not_broken one bytes p (rule.Text broken) at is breaks = is.parsed.tokenized.unbroken broken at breaks.broken
+not_broken one bytes p rule.Syntax at is breaks =
+    let same : is.parsed.tokens ≡ breaks.0 = one.tokens bytes is.parsed.tokens breaks.0 is.parsed.tokenized breaks.1 in
+    breaks.2.none is.parsed.derives.0 (is.parsed.derives.1 ∙ same)
+not_broken one bytes p (rule.Check broken) at is breaks =
+    let same : p ≡ breaks.0 = same_program one bytes p breaks.0 is.parsed breaks.1 in
+    cc (ap broken_rule same, is.kept, breaks.2)
 
-whole : (end : End) (call : Call) → HasOneReading → Ends end call → (bytes : List ℕ) (r : Reading) → IsFair call bytes → (Rose call.write_before call.write_now → ⊥)
-    → length bytes ≤ most_bytes → IsSmall bytes r → Whole (status_at end) call bytes r
-whole (Ok u) call unique ends bytes r fair writes short small = inl (refl, written call bytes r unique fair small ends)
-whole (Err cause.Usage) call unique ends bytes r fair writes short small = absurd (ends.no_form (fair.name, fair.named))
-whole (Err cause.CannotOpen) call unique ends bytes r fair writes short small = absurd (not_unopened call bytes ends.name fair ends.named ends.cause)
-whole (Err cause.ReadFault) call unique ends bytes r fair writes short small = absurd (fair.reads ends.cause)
-whole (Err cause.TooLong) call unique ends bytes r fair writes short small =
+-- a reading of an accepted program is the reading of any
+same_reading : OneReading → (bytes : List ℕ) (p q : Program) (o : Option Reading) → IsAccepted bytes p → IsAccepted bytes q → reading_of p ≡ o → reading_of q ≡ o
+same_reading one bytes p q o a b e = ap reading_of (same_program one bytes q p b.parsed a.parsed) ∙ e
+
+-- the report of a file is the one of its program
+same_report : OneReading → (bytes text : List ℕ) (p : Program) (r : Reading) → IsAccepted bytes p → reading_of p ≡ Some r → IsReportOf bytes text → text ≡ report bytes p r
+same_report one bytes text p r is small rep =
+    let same : rep.program ≡ p = same_program one bytes rep.program p rep.accepted.parsed is.parsed in
+    let read : rep.reading ≡ r = cc (same_reading one bytes rep.program p (Some rep.reading) rep.accepted is rep.small, small) in
+    rep.is ∙ ap (λ q. report bytes q rep.reading) same ∙ ap (report bytes p) read
+
+abbrev Whole : Status → Call → List ℕ → Program → Reading → Type 0
+Whole answer call bytes p r =
+    ((answer ≡ status.Proved) × Appends call.out_before call.out_now (report bytes p r)) ⊎ (answer ≡ status.NoMemory)
+
+written : (call : Call) (bytes : List ℕ) (p : Program) (r : Reading) → OneReading → IsFair call bytes → IsAccepted bytes p → reading_of p ≡ Some r → IsWritten call → Appends call.out_before call.out_now (report bytes p r)
+written call bytes p r one fair is small w =
+    let e : w.report.bytes ≡ bytes = sym (read_fair call bytes w.report.bytes fair w.report.read) in
+    let rep : IsReportOf bytes w.text = subst (λ b. IsReportOf b w.text) e w.report.report in
+    subst (Appends call.out_before call.out_now) (same_report one bytes w.text p r is small rep) w.whole
+
+whole : (end : End) (call : Call) → OneReading → Ends end call → (bytes : List ℕ) (p : Program) (r : Reading) → IsFair call bytes → (Rose call.write_before call.write_now → ⊥)
+    → length bytes ≤ most_bytes → IsAccepted bytes p → reading_of p ≡ Some r → Whole (status_at end) call bytes p r
+whole (Ok u) call one ends bytes p r fair writes short is small = inl (refl, written call bytes p r one fair is small ends)
+whole (Err cause.Usage) call one ends bytes p r fair writes short is small = absurd (ends.no_form (fair.name, fair.named))
+whole (Err cause.CannotOpen) call one ends bytes p r fair writes short is small = absurd (not_unopened call bytes ends.name fair ends.named ends.cause)
+whole (Err cause.ReadFault) call one ends bytes p r fair writes short is small = absurd (fair.reads ends.cause)
+whole (Err cause.TooLong) call one ends bytes p r fair writes short is small =
     absurd (omega (arith, too_long call bytes ends.name ends.left fair ends.named ends.long))
-whole (Err cause.NotYet) call unique ends bytes r fair writes short small =
-    absurd (ends.not_small r (subst (λ b. IsSmall b r) (read_fair call bytes ends.bytes fair ends.read) small))
-whole (Err cause.WriteFault) call unique ends bytes r fair writes short small = absurd (writes ends.cause)
-whole (Err cause.NoMemory) call unique ends bytes r fair writes short small = inr refl
+whole (Err (cause.Broken broken place)) call one ends bytes p r fair writes short is small =
+    let is' : IsAccepted ends.bytes p = subst (λ b. IsAccepted b p) (read_fair call bytes ends.bytes fair ends.read) is in
+    absurd (not_broken one ends.bytes p broken ends.broken.offset is' ends.broken.breaks)
+whole (Err cause.NotYet) call one ends bytes p r fair writes short is small =
+    let is' : IsAccepted ends.bytes p = subst (λ b. IsAccepted b p) (read_fair call bytes ends.bytes fair ends.read) is in
+    absurd (cc (small, same_reading one ends.bytes ends.large.program p None ends.large.accepted is' ends.large.not_small))
+whole (Err cause.WriteFault) call one ends bytes p r fair writes short is small = absurd (writes ends.cause)
+whole (Err cause.NoMemory) call one ends bytes p r fair writes short is small = inr refl
 
-long_refused : (end : End) (call : Call) → Ends end call → (bytes : List ℕ) → IsFair call bytes → most_bytes < length bytes → Answers (status_at end) status.Refused
-long_refused (Ok u) call ends bytes fair long =
-    let e = ap length (read_fair call bytes ends.report.bytes fair ends.report.read) in
-    absurd (omega (arith, e, ends.report.read.short))
-long_refused (Err cause.Usage) call ends bytes fair long = absurd (ends.no_form (fair.name, fair.named))
-long_refused (Err cause.CannotOpen) call ends bytes fair long = absurd (not_unopened call bytes ends.name fair ends.named ends.cause)
-long_refused (Err cause.ReadFault) call ends bytes fair long = absurd (fair.reads ends.cause)
-long_refused (Err cause.TooLong) call ends bytes fair long = inl refl
-long_refused (Err cause.NotYet) call ends bytes fair long = inl refl
-long_refused (Err cause.WriteFault) call ends bytes fair long =
-    let e = ap length (read_fair call bytes ends.report.bytes fair ends.report.read) in
-    absurd (omega (arith, e, ends.report.read.short))
-long_refused (Err cause.NoMemory) call ends bytes fair long = inr refl
-
-other_refused : (end : End) (call : Call) → Ends end call → (bytes : List ℕ) → IsFair call bytes → IsNotSmall bytes → Answers (status_at end) status.Refused
-other_refused (Ok u) call ends bytes fair other =
-    let rep = ends.report in
-    absurd (other rep.reading (subst (λ b. IsSmall b rep.reading) (sym (read_fair call bytes rep.bytes fair rep.read)) rep.small))
-other_refused (Err cause.Usage) call ends bytes fair other = absurd (ends.no_form (fair.name, fair.named))
-other_refused (Err cause.CannotOpen) call ends bytes fair other = absurd (not_unopened call bytes ends.name fair ends.named ends.cause)
-other_refused (Err cause.ReadFault) call ends bytes fair other = absurd (fair.reads ends.cause)
-other_refused (Err cause.TooLong) call ends bytes fair other = inl refl
-other_refused (Err cause.NotYet) call ends bytes fair other = inl refl
-other_refused (Err cause.WriteFault) call ends bytes fair other =
-    let rep = ends.report in
-    absurd (other rep.reading (subst (λ b. IsSmall b rep.reading) (sym (read_fair call bytes rep.bytes fair rep.read)) rep.small))
-other_refused (Err cause.NoMemory) call ends bytes fair other = inr refl
+-- where no report can be made of the fair file, the end is a refusal
+refused : (end : End) (call : Call) → Ends end call → (bytes : List ℕ) → IsFair call bytes → ((text : List ℕ) → length bytes ≤ most_bytes → IsReportOf bytes text → ⊥) → Answers (status_at end) status.Refused
+refused (Ok u) call ends bytes fair none =
+    let e : ends.report.bytes ≡ bytes = sym (read_fair call bytes ends.report.bytes fair ends.report.read) in
+    absurd (none ends.text (subst (λ b. length b ≤ most_bytes) e ends.report.read.short) (subst (λ b. IsReportOf b ends.text) e ends.report.report))
+refused (Err cause.Usage) call ends bytes fair none = absurd (ends.no_form (fair.name, fair.named))
+refused (Err cause.CannotOpen) call ends bytes fair none = absurd (not_unopened call bytes ends.name fair ends.named ends.cause)
+refused (Err cause.ReadFault) call ends bytes fair none = absurd (fair.reads ends.cause)
+refused (Err cause.TooLong) call ends bytes fair none = inl refl
+refused (Err (cause.Broken broken place)) call ends bytes fair none = inl refl
+refused (Err cause.NotYet) call ends bytes fair none = inl refl
+refused (Err cause.WriteFault) call ends bytes fair none =
+    let e : ends.report.bytes ≡ bytes = sym (read_fair call bytes ends.report.bytes fair ends.report.read) in
+    absurd (none ends.text (subst (λ b. length b ≤ most_bytes) e ends.report.read.short) (subst (λ b. IsReportOf b ends.text) e ends.report.report))
+refused (Err cause.NoMemory) call ends bytes fair none = inr refl
 
 -- ---- words of no form
 
@@ -122,6 +160,7 @@ unnamed (Err cause.Usage) call ends none = refl
 unnamed (Err cause.CannotOpen) call ends none = absurd (none (ends.name, ends.named))
 unnamed (Err cause.ReadFault) call ends none = absurd (none ends.named)
 unnamed (Err cause.TooLong) call ends none = absurd (none (ends.name, ends.named))
+unnamed (Err (cause.Broken broken place)) call ends none = absurd (none (ends.read.name, ends.read.named))
 unnamed (Err cause.NotYet) call ends none = absurd (none (ends.read.name, ends.read.named))
 unnamed (Err cause.WriteFault) call ends none = absurd (none (ends.report.read.name, ends.report.read.named))
 unnamed (Err cause.NoMemory) call ends none = absurd (none ends.named)
@@ -132,15 +171,17 @@ no_form (Err cause.Usage) call ends e = ends.no_form
 no_form (Err cause.CannotOpen) call ends e = cc e
 no_form (Err cause.ReadFault) call ends e = cc e
 no_form (Err cause.TooLong) call ends e = cc e
+no_form (Err (cause.Broken broken place)) call ends e = cc e
 no_form (Err cause.NotYet) call ends e = cc e
 no_form (Err cause.WriteFault) call ends e = cc e
 no_form (Err cause.NoMemory) call ends e = cc e
 
-pub completes : (end : End) (call : Call) → HasOneReading → Ends end call → Completes (status_at end) call
-completes end call unique ends = record {
-  proved = whole end call unique ends;
-  long = long_refused end call ends;
-  not_small = other_refused end call ends;
+pub completes : (end : End) (call : Call) → OneReading → Ends end call → Completes (status_at end) call
+completes end call one ends = record {
+  proved = whole end call one ends;
+  long = λ bytes fair long. refused end call ends bytes fair (λ text short rep. omega (arith, long, short));
+  broken = λ bytes broken at fair short breaks. refused end call ends bytes fair (λ text short rep. not_broken one bytes rep.program broken at rep.accepted breaks);
+  not_small = λ bytes fair short large. refused end call ends bytes fair (λ text short rep. cc (rep.small, same_reading one bytes large.program rep.program None large.accepted rep.accepted large.not_small));
   no_form = unnamed end call ends;
   form = no_form end call ends;
 }

@@ -10,3 +10,4 @@ pub mod Reporting
 pub mod Running
 pub mod Satisfied
 pub mod Steps
+pub mod Readings

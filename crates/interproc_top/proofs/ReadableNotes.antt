@@ -2,20 +2,19 @@
 use Rattle.std.proofs.Common.{◌≡◌, ℕ, zero, suc, ◌<◌, ◌≤◌, ◌^◌, ◌==◌, ◌||◌, Bool, true, false, nat_le, ◌&&◌, List, [], ◌∷◌, ◌++◌, length, Option, None, Some, ℤ, pos, negsuc, neg_ℤ, ◌≤ℤ◌, decimal, codes, refl, sym, ap, ◌∙◌, subst, arith, append_assoc, inl, inr, ◌⊎◌}
 use Rattle.std.specs.List.{All, flat_map}
 use Rattle.std.proofs.lemmas.Int.{ints}
-use Rattle.std.proofs.lemmas.List.{length-map}
 use Rattle.std.proofs.lemmas.List.Elements.{All-head, All-tail}
 use Rattle.std.proofs.lemmas.Bool.{both_ways, true≢false, cases_Bool, or_cases, or_from, or_left, and_left, and_right, and_parts, leb-true, lt-leb, ne_eqb, eqb-true}
 use Rattle.std.proofs.lemmas.Fmt.{decimal_injective}
+use Rattle.interproc_top.specs.Report.{names_of}
 use Rattle.spl_text.specs.Bytes.{is_letter, is_digit, is_name_byte}
-use Rattle.spl_text.specs.SmallProgram.{text, texts}
 use Rattle.interproc_top.specs.ConstraintText.{name_of, first_sign, next_sign, second_text, constant_text, relation_text, constraint_text, next_constraint_text, constraints_text}
 use Rattle.interproc_top.specs.Names.{IsSecondNamed}
-use Rattle.interproc_top.specs.Readable.{IsName, AreDistinctNames, IsPlain, IsPlainNote, ConstraintTextsAreReadable, NoteTextsAreReadable, ReportNotesAreReadable}
+use Rattle.interproc_top.specs.Readable.{IsName, AreDistinctNames, IsPlain, ConstraintTextsAreReadable, NoteTextsAreReadable, MainNamesAreNames, ReportNotesAreReadable}
 use Rattle.interproc_top.specs.declared.constraint.Term.{Term}
 use Rattle.interproc_top.specs.declared.constraint.Relation.{Relation}
 use Rattle.interproc_top.specs.declared.constraint.Relation.TheVariants.{AtLeastZero, Zero}
 use Rattle.interproc_top.specs.declared.constraint.Constraint.{Constraint}
-use Rattle.interproc_top.proofs.ReadableNames.{variable_is, reading_names}
+use Rattle.interproc_top.proofs.ReadableNames.{variable_is}
 use Rattle.interproc_top.proofs.ReadablePieces.{Passes, Stops, Begins, Begins-passes, Passes-from_All, head_is, tail_is, cons_is, cancel, decimal_digits}
 
 -- ---- bytes of different classes
@@ -276,8 +275,5 @@ readable_notes names None (Some ds) ok p q e = absurd (bottom_is_no_list names d
 readable_notes names (Some cs) None ok p q e = absurd (bottom_is_no_list names cs (sym e))
 readable_notes names (Some cs) (Some ds) ok p q e = ap Some (listed_apart names cs ds ok p q e)
 
-pub readable_reports : ReportNotesAreReadable
-readable_reports bytes r a b s p q e =
-    let len : length r.variables ≡ length (texts bytes r.variables) = sym (length-map r.variables (text bytes)) in
-    readable_notes (texts bytes r.variables) a b (reading_names bytes r s)
-    (subst (λ n. IsPlainNote n a) len p) (subst (λ n. IsPlainNote n b) len q) e
+pub readable_reports : MainNamesAreNames → ReportNotesAreReadable
+readable_reports named bytes p a b s plain plain' e = readable_notes (names_of p) a b (named bytes p s) plain plain' e

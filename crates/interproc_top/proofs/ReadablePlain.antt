@@ -1,5 +1,5 @@
 -- What the analysis says is plain.
-use Rattle.std.proofs.Common.{ℕ, zero, suc, ◌+◌, ◌*◌, ◌<◌, Bool, true, false, cond, List, [], ◌∷◌, length, fold, take, Option, None, Some, ℤ, pos, ◌+ℤ◌, if◌then◌else◌, subst, arith}
+use Rattle.std.proofs.Common.{ℕ, zero, suc, ◌+◌, ◌*◌, ◌<◌, Bool, true, false, cond, List, [], ◌∷◌, fold, take, Option, None, Some, ℤ, pos, ◌+ℤ◌, if◌then◌else◌, subst, arith}
 use Rattle.std.proofs.lemmas.Int.{ints}
 use Rattle.std.specs.Option.{option_map}
 use Rattle.std.specs.List.{All, flat_map, range_with_len}
@@ -12,11 +12,10 @@ use Rattle.oct_def.specs.Octagon.{Octagon, IsValueOver, IsOctagon, top_value}
 use Rattle.oct_def.proofs.Bounds.{half_low, half_high}
 use Rattle.interval_form.specs.Expression.{Number, Variable, Add}
 use Rattle.transfer_def.specs.Laws.{AssignmentIsValue}
-use Rattle.spl_text.specs.SmallProgram.{Reading}
-use Rattle.spl_text.specs.declared.small_program.Line.{Line}
-use Rattle.spl_text.specs.declared.small_program.SmallStmt.{SmallStmt}
-use Rattle.spl_text.specs.declared.small_program.SmallStmt.TheVariants as stmt
-use Rattle.interproc_top.specs.Analysis.{after, after_line, value_after, note_after}
+use Rattle.small_program.specs.Reading.{Reading}
+use Rattle.small_program.specs.declared.statement.SmallStmt.{SmallStmt}
+use Rattle.small_program.specs.declared.statement.SmallStmt.TheVariants as stmt
+use Rattle.interproc_top.specs.Analysis.{after, then_after, value_after, note_after}
 use Rattle.interproc_top.specs.Constraint.{opposite_term}
 use Rattle.interproc_top.specs.Listed.{at_least, at_most_of, equal_to, between, plain, minus, same_bound, implied_bound, pair_bound, listed_pair, listed_alone, listed_variable, listed}
 use Rattle.interproc_top.specs.Names.{IsSecondNamed}
@@ -118,13 +117,13 @@ value-after assign (stmt.Number x k) v h = assign x (Number k) v h
 value-after assign (stmt.Copy x y) v h = assign x (Variable y) v h
 value-after assign (stmt.Sum x y k) v h = assign x (Add (Variable y) (Number k)) v h
 
-value-fold : AssignmentIsValue → (lines : List Line) (v : Octagon) → IsOctagon v → IsOctagon (fold after_line v lines)
+value-fold : AssignmentIsValue → (ss : List SmallStmt) (v : Octagon) → IsOctagon v → IsOctagon (fold then_after v ss)
 value-fold assign [] v h = h
-value-fold assign (line ∷ lines) v h = value-fold assign lines (after line.stmt v) (value-after assign line.stmt v h)
+value-fold assign (s ∷ ss) v h = value-fold assign ss (after s v) (value-after assign s v h)
 
 value-value_after : TopIsValue → AssignmentIsValue → (r : Reading) (k : ℕ) → IsOctagon (value_after r k)
 unfolding value_after
-value-value_after top assign r k = value-fold assign (take k r.lines) (top_value (length r.variables)) (top (length r.variables))
+value-value_after top assign r k = value-fold assign (take k r.statements) (top_value r.variables) (top r.variables)
 
 pub plain_notes : TopIsValue → AssignmentIsValue → NotesArePlain
 plain_notes top assign r k =

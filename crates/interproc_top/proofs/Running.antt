@@ -10,11 +10,11 @@ use Rattle.oct_def.specs.Octagon.{Octagon, MeetsOctagon, top_value}
 use Rattle.interval_form.specs.Expression.{Expression, Number, Variable, Add, State, eval, IsOver}
 use Rattle.transfer_def.specs.Assign.{assign_value}
 use Rattle.transfer_def.specs.Laws.{AssignmentIsSound}
-use Rattle.spl_text.specs.SmallProgram.{Reading, NamesVariables}
-use Rattle.spl_text.specs.declared.small_program.Line.{Line}
-use Rattle.spl_text.specs.declared.small_program.SmallStmt.{SmallStmt}
-use Rattle.spl_text.specs.declared.small_program.SmallStmt.TheVariants as stmt
-use Rattle.interproc_top.specs.Analysis.{after, after_line, value_after}
+use Rattle.small_program.specs.Reading.{Reading}
+use Rattle.small_program.specs.InRange.{NamesVariables}
+use Rattle.small_program.specs.declared.statement.SmallStmt.{SmallStmt}
+use Rattle.small_program.specs.declared.statement.SmallStmt.TheVariants as stmt
+use Rattle.interproc_top.specs.Analysis.{after, then_after, value_after}
 use Rattle.interproc_top.specs.Listed.{listed}
 use Rattle.interproc_top.specs.Runs.{Action, Start, action_of, action_at, Flow, Stack, Step, Moves, Joined, last_of}
 use Rattle.interproc_top.specs.Sound.{IsTrueOf, IsClosed, ReportsAreSound}
@@ -22,15 +22,15 @@ use Rattle.interproc_top.proofs.Satisfied.{satisfies-listed}
 
 -- ---- the values at the points
 
-pub value_after-zero : (r : Reading) → value_after r 0 ≡ top_value (length r.variables)
+pub value_after-zero : (r : Reading) → value_after r 0 ≡ top_value r.variables
 unfolding value_after
 value_after-zero r = refl
 
-pub value_after-next : (r : Reading) (k : ℕ) (line : Line) → slice_get r.lines k ≡ Some line → value_after r (k + 1) ≡ after line.stmt (value_after r k)
+pub value_after-next : (r : Reading) (k : ℕ) (s : SmallStmt) → slice_get r.statements k ≡ Some s → value_after r (k + 1) ≡ after s (value_after r k)
 unfolding value_after
-value_after-next r k line e =
-    fold_more after_line (top_value (length r.variables)) r.lines k line (slice_get_within r.lines k line e)
-    ∙ ap (after_line (fold after_line (top_value (length r.variables)) (take k r.lines))) (get_or_from_slice_get r.lines k line line e)
+value_after-next r k s e =
+    fold_more then_after (top_value r.variables) r.statements k s (slice_get_within r.statements k s e)
+    ∙ ap (then_after (fold then_after (top_value r.variables) (take k r.statements))) (get_or_from_slice_get r.statements k s s e)
 
 dims-after : (s : SmallStmt) (v : Octagon) → (after s v).dims ≡ v.dims
 unfolding assign_value
@@ -39,20 +39,20 @@ dims-after (stmt.Number x n) v = refl
 dims-after (stmt.Copy x y) v = refl
 dims-after (stmt.Sum x y n) v = refl
 
-dims-fold : (n : ℕ) (lines : List Line) (v : Octagon) → v.dims ≡ n → (fold after_line v lines).dims ≡ n
+dims-fold : (n : ℕ) (ss : List SmallStmt) (v : Octagon) → v.dims ≡ n → (fold then_after v ss).dims ≡ n
 dims-fold n [] v e = e
-dims-fold n (line ∷ lines) v e = dims-fold n lines (after line.stmt v) (dims-after line.stmt v ∙ e)
+dims-fold n (s ∷ ss) v e = dims-fold n ss (after s v) (dims-after s v ∙ e)
 
-pub dims-value_after : (r : Reading) (k : ℕ) → (value_after r k).dims ≡ length r.variables
+pub dims-value_after : (r : Reading) (k : ℕ) → (value_after r k).dims ≡ r.variables
 unfolding value_after top_value
-dims-value_after r k = dims-fold (length r.variables) (take k r.lines) (top_value (length r.variables)) refl
+dims-value_after r k = dims-fold r.variables (take k r.statements) (top_value r.variables) refl
 
 -- ---- one step
 
 -- a state at a point: one value for each variable, and it meets the value of a printed point
 abbrev Fits : Reading → ℕ → State → Type 0
-Fits r zero s = length s ≡ length r.variables
-Fits r (suc k) s = (length s ≡ length r.variables) × MeetsOctagon s (value_after r k)
+Fits r zero s = length s ≡ r.variables
+Fits r (suc k) s = (length s ≡ r.variables) × MeetsOctagon s (value_after r k)
 
 abbrev FitsTop : Reading → Stack → Type 0
 FitsTop r [] = Unit {0}
@@ -75,25 +75,25 @@ flows (stmt.Sum x y k) v s t n sound dims len speaks meets flow =
     assigned x (Add (Variable y) (Number k)) v s t n sound dims len speaks.0 (speaks.1, tt) meets flow
 
 -- the statement of an action out of a point of the body
-statement_of : (got : Option Line) (action : Action) → option_map (λ (line : Line). action_of line.stmt) got ≡ Some action
-    → (line : Line) × (got ≡ Some line) × (action_of line.stmt ≡ action)
+statement_of : (got : Option SmallStmt) (action : Action) → option_map action_of got ≡ Some action
+    → (s : SmallStmt) × (got ≡ Some s) × (action_of s ≡ action)
 statement_of None action e = absurd (cc e)
-statement_of (Some line) action e = (line, refl, cc e)
+statement_of (Some s) action e = (s, refl, cc e)
 
 moves : (r : Reading) → TopIsMet → AssignmentIsSound → IsClosed r → (point : ℕ) (s t : State) (action : Action)
     → action_at r point ≡ Some action → Flow action s t → Fits r point s → Fits r (suc point) t
 moves r top sound closed zero s t action e flow fits =
     let start : Start ≡ action = cc e in
     let same : t ≡ s = subst (λ a. Flow a s t) (sym start) flow in
-    (ap length same ∙ fits, subst (MeetsOctagon t) (sym (value_after-zero r)) (top (length r.variables) t))
+    (ap length same ∙ fits, subst (MeetsOctagon t) (sym (value_after-zero r)) (top r.variables t))
 moves r top sound closed (suc k) s t action e flow fits =
-    let found = statement_of (slice_get r.lines k) action e in
-    let line = found.0 in
-    let flow' : Flow (action_of line.stmt) s t = subst (λ a. Flow a s t) (sym found.2) flow in
-    let speaks : NamesVariables (length r.variables) line.stmt =
-    subst (λ (l : Line). NamesVariables (length r.variables) l.stmt) (get_or_from_slice_get r.lines k line line found.1) (closed k line (slice_get_within r.lines k line found.1)) in
-    let went = flows line.stmt (value_after r k) s t (length r.variables) sound (dims-value_after r k) fits.0 speaks fits.1 flow' in
-    let next : value_after r (suc k) ≡ after line.stmt (value_after r k) = ap (value_after r) (sym (add-one k)) ∙ value_after-next r k line found.1 in
+    let found = statement_of (slice_get r.statements k) action e in
+    let here = found.0 in
+    let flow' : Flow (action_of here) s t = subst (λ a. Flow a s t) (sym found.2) flow in
+    let speaks : NamesVariables r.variables here =
+    subst (NamesVariables r.variables) (get_or_from_slice_get r.statements k here here found.1) (closed k here (slice_get_within r.statements k here found.1)) in
+    let went = flows here (value_after r k) s t r.variables sound (dims-value_after r k) fits.0 speaks fits.1 flow' in
+    let next : value_after r (suc k) ≡ after here (value_after r k) = ap (value_after r) (sym (add-one k)) ∙ value_after-next r k here found.1 in
     (went.0, subst (MeetsOctagon t) (sym next) went.1)
 
 steps : (r : Reading) → TopIsMet → AssignmentIsSound → IsClosed r → (a b : Stack) → Step r a b → FitsTop r a → FitsTop r b

@@ -5,13 +5,17 @@ use Rattle.std.specs.Io.KnownBytes.{Keeps, Appends}
 use Rattle.spl_io.specs.Counts.{Rose}
 use Rattle.spl_io.specs.Sink.{GrewByFront}
 use Rattle.spl_io.specs.Store.{Store, Told, Lacks, Has, IsLong, most_bytes}
-use Rattle.spl_text.specs.SmallProgram.{Reading, IsSmall, IsNotSmall}
+use Rattle.spl_text.specs.declared.place.Place.{Place}
+use Rattle.spl_tree.specs.Program.{Program}
+use Rattle.small_program.specs.Reading.{Reading, reading_of}
+use Rattle.interproc_top.specs.Accepted.{IsAccepted, BreaksAt, BreaksFirst, IsLarge}
 use Rattle.interproc_top.specs.Cause.{status_of, line_of}
 use Rattle.interproc_top.specs.Command.{NamesFile, NamesAFile}
 use Rattle.interproc_top.specs.Report.{report}
-use Rattle.interproc_top.specs.Sound.{IsSound}
+use Rattle.interproc_top.specs.Reported.{IsReportOf}
 use Rattle.interproc_top.specs.declared.cause.Cause.{Cause}
 use Rattle.interproc_top.specs.declared.cause.Cause.TheVariants as cause
+use Rattle.interproc_top.specs.declared.cause.Rule.{Rule}
 use Rattle.interproc_top.specs.declared.cause.Status.{Status}
 use Rattle.interproc_top.specs.declared.cause.Status.TheVariants as status
 
@@ -39,10 +43,7 @@ pub record IsRead (call : Call) (bytes : List ℕ) : Type 0 where
 pub record IsReport (call : Call) (text : List ℕ) : Type 0 where
   pub bytes : List ℕ
   pub read : IsRead call bytes
-  pub reading : Reading
-  pub small : IsSmall bytes reading
-  pub is : text ≡ report bytes reading
-  pub sound : IsSound reading
+  pub report : IsReportOf bytes text
 
 -- nothing was written
 abbrev pub WritesNothing : Call → Type 0
@@ -76,11 +77,18 @@ pub record IsTooLong (call : Call) : Type 0 where
   pub long : IsLong call.files name left
   pub writes_nothing : WritesNothing call
 
--- the file is no small program
+-- the file breaks this rule first, at this place
+pub record IsBroken (call : Call) (rule : Rule) (place : Place) : Type 0 where
+  pub bytes : List ℕ
+  pub read : IsRead call bytes
+  pub broken : BreaksFirst bytes rule place
+  pub writes_nothing : WritesNothing call
+
+-- the file is a program that breaks no rule, but no small one
 pub record IsNotYet (call : Call) : Type 0 where
   pub bytes : List ℕ
   pub read : IsRead call bytes
-  pub not_small : IsNotSmall bytes
+  pub large : IsLarge bytes
   pub writes_nothing : WritesNothing call
 
 -- a write of the report failed, and a part of it stands there
@@ -102,6 +110,7 @@ Explains cause.Usage call = IsUsage call
 Explains cause.CannotOpen call = IsUnopened call
 Explains cause.ReadFault call = IsUnread call
 Explains cause.TooLong call = IsTooLong call
+Explains (cause.Broken rule place) call = IsBroken call rule place
 Explains cause.NotYet call = IsNotYet call
 Explains cause.WriteFault call = IsUnwritten call
 Explains cause.NoMemory call = IsOutOfMemory call
@@ -142,12 +151,13 @@ Answers answer wanted = (answer ≡ wanted) ⊎ (answer ≡ status.NoMemory)
 
 pub record Completes (answer : Status) (call : Call) : Type 0 where
   -- a small program gets its whole report
-  pub proved : (bytes : List ℕ) (r : Reading) → IsFair call bytes → (Rose call.write_before call.write_now → ⊥)
-      → length bytes ≤ most_bytes → IsSmall bytes r
-      → ((answer ≡ status.Proved) × Appends call.out_before call.out_now (report bytes r)) ⊎ (answer ≡ status.NoMemory)
+  pub proved : (bytes : List ℕ) (p : Program) (r : Reading) → IsFair call bytes → (Rose call.write_before call.write_now → ⊥)
+      → length bytes ≤ most_bytes → IsAccepted bytes p → reading_of p ≡ Some r
+      → ((answer ≡ status.Proved) × Appends call.out_before call.out_now (report bytes p r)) ⊎ (answer ≡ status.NoMemory)
   -- any other file is refused
   pub long : (bytes : List ℕ) → IsFair call bytes → most_bytes < length bytes → Answers answer status.Refused
-  pub not_small : (bytes : List ℕ) → IsFair call bytes → IsNotSmall bytes → Answers answer status.Refused
+  pub broken : (bytes : List ℕ) (rule : Rule) (at : ℕ) → IsFair call bytes → length bytes ≤ most_bytes → BreaksAt bytes rule at → Answers answer status.Refused
+  pub not_small : (bytes : List ℕ) → IsFair call bytes → length bytes ≤ most_bytes → IsLarge bytes → Answers answer status.Refused
   -- words of no form are refused as such, and no others
   pub no_form : (NamesAFile call.words → ⊥) → answer ≡ status.Usage
   pub form : answer ≡ status.Usage → NamesAFile call.words → ⊥

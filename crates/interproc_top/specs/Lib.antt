@@ -1,3 +1,4 @@
+pub mod Accepted
 pub mod Analysis
 pub mod Call
 pub mod Cause
@@ -8,5 +9,6 @@ pub mod Listed
 pub mod Names
 pub mod Readable
 pub mod Report
+pub mod Reported
 pub mod Runs
 pub mod Sound

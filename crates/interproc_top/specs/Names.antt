@@ -1,15 +1,10 @@
 -- The names of variables, as the code holds them.
-use Rattle.std.specs.Prelude.{◌≡◌, ℕ, ◌<◌, List, Option, None, Some, Vec, map, slice_get}
-use Rattle.std.specs.Borrow.{Bor}
+use Rattle.std.specs.Prelude.{◌≡◌, ℕ, ◌<◌, List, Option, None, Some, Vec, slice_get}
 use Rattle.std.specs.Option.{option_map}
 use Rattle.std.specs.declared.alloc.Global.{Global}
 use Rattle.interproc_top.specs.Analysis.{Note}
 use Rattle.interproc_top.specs.declared.constraint.Term.{Term}
 use Rattle.interproc_top.specs.declared.constraint.Constraint.{Constraint}
-
--- what some references point to
-abbrev pub names_now : List (Bor (List ℕ)) → List (List ℕ)
-names_now names = map (λ (name : Bor (List ℕ)). name.now) names
 
 -- what is said at a point
 abbrev pub note_now : Option (Vec Constraint Global) → Note

@@ -3,10 +3,13 @@ use Rattle.std.specs.Prelude.{◌≡◌, ℕ, ◌^◌, List, [], ◌∷◌, leng
 use Rattle.std.specs.List.{All, IsDistinct}
 use Rattle.std.specs.Str.{bytes_eq}
 use Rattle.spl_text.specs.Bytes.{is_letter, is_name_byte}
-use Rattle.spl_text.specs.SmallProgram.{Reading, IsSmall, texts}
+use Rattle.spl_tree.specs.Program.{Program}
+use Rattle.small_program.specs.Reading.{Reading}
 use Rattle.interproc_top.specs.Analysis.{Note, note_after}
 use Rattle.interproc_top.specs.ConstraintText.{constraint_text, note_text}
 use Rattle.interproc_top.specs.Names.{IsNamed}
+use Rattle.interproc_top.specs.Report.{names_of}
+use Rattle.interproc_top.specs.Accepted.{IsAccepted}
 use Rattle.interproc_top.specs.declared.constraint.Constraint.{Constraint}
 
 -- a letter or `_` first, then only letters, digits and `_`
@@ -40,16 +43,16 @@ abbrev pub NoteTextsAreReadable : Type 0
 NoteTextsAreReadable = (names : List (List ℕ)) (a b : Note) → AreDistinctNames names
     → IsPlainNote (length names) a → IsPlainNote (length names) b → note_text names a ≡ note_text names b → a ≡ b
 
--- the variables of a small program have names that differ
-abbrev pub ReadingNamesAreNames : Type 0
-ReadingNamesAreNames = (bytes : List ℕ) (r : Reading) → IsSmall bytes r → AreDistinctNames (texts bytes r.variables)
+-- the dimensions of an accepted program's main have names that differ
+abbrev pub MainNamesAreNames : Type 0
+MainNamesAreNames = (bytes : List ℕ) (p : Program) → IsAccepted bytes p → AreDistinctNames (names_of p)
 
--- two notes on a small program with one text are one note
+-- two notes on main with one text are one note
 abbrev pub ReportNotesAreReadable : Type 0
-ReportNotesAreReadable = (bytes : List ℕ) (r : Reading) (a b : Note) → IsSmall bytes r
-    → IsPlainNote (length r.variables) a → IsPlainNote (length r.variables) b
-    → note_text (texts bytes r.variables) a ≡ note_text (texts bytes r.variables) b → a ≡ b
+ReportNotesAreReadable = (bytes : List ℕ) (p : Program) (a b : Note) → IsAccepted bytes p
+    → IsPlainNote (length (names_of p)) a → IsPlainNote (length (names_of p)) b
+    → note_text (names_of p) a ≡ note_text (names_of p) b → a ≡ b
 
 -- what the analysis says of a program is plain
 abbrev pub NotesArePlain : Type 0
-NotesArePlain = (r : Reading) (k : ℕ) → IsPlainNote (length r.variables) (note_after r k)
+NotesArePlain = (r : Reading) (k : ℕ) → IsPlainNote r.variables (note_after r k)

@@ -2,10 +2,9 @@
 use Rattle.std.specs.Prelude.{◌≡◌, ℕ, zero, suc, ◌+◌, List, [], ◌∷◌, length, Option, Some, slice_get, slice_set}
 use Rattle.std.specs.Option.{option_map}
 use Rattle.interval_form.specs.Expression.{Expression, Number, Variable, Add, State, eval}
-use Rattle.spl_text.specs.SmallProgram.{Reading}
-use Rattle.spl_text.specs.declared.small_program.Line.{Line}
-use Rattle.spl_text.specs.declared.small_program.SmallStmt.{SmallStmt}
-use Rattle.spl_text.specs.declared.small_program.SmallStmt.TheVariants as stmt
+use Rattle.small_program.specs.Reading.{Reading}
+use Rattle.small_program.specs.declared.statement.SmallStmt.{SmallStmt}
+use Rattle.small_program.specs.declared.statement.SmallStmt.TheVariants as stmt
 
 -- what the edge from one point to the next does
 pub data Action : Type 0 where
@@ -25,7 +24,7 @@ action_of (stmt.Sum x y n) = Assign x (Add (Variable y) (Number n))
 -- The edge out of each point, if there is one, leads to the next.
 abbrev pub action_at : Reading → ℕ → Option Action
 action_at r zero = Some Start
-action_at r (suc k) = option_map (λ (line : Line). action_of line.stmt) (slice_get r.lines k)
+action_at r (suc k) = option_map action_of (slice_get r.statements k)
 
 -- from one state to another by an action: an assignment puts the value of its expression in
 abbrev pub Flow : Action → State → State → Type 0
@@ -60,7 +59,7 @@ last_of first (next ∷ stacks) = last_of next stacks
 -- a run: stacks joined by steps, of which the first is one frame at main's entry with any state
 pub record Run (r : Reading) : Type 0 where
   pub start : State
-  pub variables : length start ≡ length r.variables
+  pub variables : length start ≡ r.variables
   pub stacks : List Stack
   pub joined : Joined r (record { point = 0; state = start } ∷ []) stacks
 

@@ -1,11 +1,11 @@
 -- What a report promises of all runs.
-use Rattle.std.specs.Prelude.{ℕ, ◌+◌, List, [], ◌∷◌, length, None, Some}
+use Rattle.std.specs.Prelude.{ℕ, ◌+◌, List, [], ◌∷◌, None, Some}
 use Rattle.std.specs.List.{All}
 use Rattle.oct_def.specs.Table.{Matrix}
 use Rattle.oct_def.specs.Matrix.{Meets}
 use Rattle.interval_form.specs.Expression.{State}
-use Rattle.spl_text.specs.SmallProgram.{Reading, NamesVariables}
-use Rattle.spl_text.specs.declared.small_program.Line.{Line}
+use Rattle.small_program.specs.Reading.{Reading}
+use Rattle.small_program.specs.InRange.{NamesVariables}
 use Rattle.interproc_top.specs.Analysis.{Note, note_after}
 use Rattle.interproc_top.specs.Constraint.{Satisfies}
 use Rattle.interproc_top.specs.Listed.{listed}
@@ -33,7 +33,7 @@ ListingIsSound = (n : ℕ) (m : Matrix) (s : State) → Meets s m → SatisfiesA
 
 -- each statement speaks of the declared variables alone
 abbrev pub IsClosed : Reading → Type 0
-IsClosed r = All (λ (line : Line). NamesVariables (length r.variables) line.stmt) r.lines
+IsClosed r = All (NamesVariables r.variables) r.statements
 
 -- what is said at the points holds of every run, whatever the program
 abbrev pub ReportsAreSound : Type 0

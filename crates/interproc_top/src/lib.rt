@@ -8,6 +8,7 @@ mod laws;
 mod listing;
 mod readable;
 mod report;
+mod stages;
 #[cfg(test)]
 mod tests;
 mod text;

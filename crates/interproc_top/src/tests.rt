@@ -22,13 +22,20 @@ fn with_file(alloc: Global, word: &[u8], text: &[u8]) -> Result<Outside, Fail> {
     Ok(Outside {
         words,
         files,
-        out: MemSink::new(alloc, 7, 4096)?,
-        err: MemSink::new(alloc, 7, 4096)?,
+        out: MemSink::new(alloc, 7, 1 << 18)?,
+        err: MemSink::new(alloc, 7, 1 << 18)?,
     })
 }
 
 /// Runs the call, and compares the status and what stands on the sinks.
-fn expect(rt: &impl Abort, alloc: Global, o: Outside, status: u8, out: &[u8], err: &[u8]) {
+fn expect(
+    rt: &impl Abort,
+    alloc: Global,
+    o: Outside,
+    status: u8,
+    out: &[u8],
+    err: &[u8],
+) -> Result<(), Fail> {
     let Outside {
         words,
         mut files,
@@ -39,11 +46,32 @@ fn expect(rt: &impl Abort, alloc: Global, o: Outside, status: u8, out: &[u8], er
     assert_eq!(rt; tell.bytes(), err);
     assert_eq!(rt; to.bytes(), out);
     assert_eq!(rt; answer.number(), status);
+    Ok(())
+}
+
+/// Runs the call, and compares the status and the line alone.
+fn expect_status(
+    rt: &impl Abort,
+    alloc: Global,
+    o: Outside,
+    status: u8,
+    err: &[u8],
+) -> Result<(), Fail> {
+    let Outside {
+        words,
+        mut files,
+        out: mut to,
+        err: mut tell,
+    } = o;
+    let answer = run(alloc, &words, &mut files, &mut to, &mut tell);
+    assert_eq!(rt; tell.bytes(), err);
+    assert_eq!(rt; answer.number(), status);
+    Ok(())
 }
 
 #[test]
 fn reports(rt: HostRuntime) -> Result<(), Fail> {
-    let cases: [(&[u8], &[u8]); 6] = [
+    let cases: [(&[u8], &[u8]); 8] = [
         (
             b"begin end\n",
             b"begin\n  /* (L1 C6) top */\nend\n/* rounds: 2 */\n",
@@ -68,39 +96,333 @@ fn reports(rt: HostRuntime) -> Result<(), Fail> {
             b"var a:int;begin skip;a=a+007;end",
             b"var a:int;\nbegin\n  /* (L1 C16) top */\n  skip;\n  /* (L1 C22) top */\n  a = a + 7;\n  /* (L1 C30) top */\nend\n/* rounds: 2 */\n",
         ),
+        (
+            b"var x:int, y:int;\nbegin\n  /* (L2 C6) top */\n  x = 3;\n  /* (L3 C7) [|x-3=0|] */\n  y = x + 4;\n  /* (L4 C11) [|x-3=0; y-7=0|] */\nend\n/* rounds: 2 */\n",
+            b"var x:int, y:int;\nbegin\n  /* (L2 C6) top */\n  x = 3;\n  /* (L4 C9) [|x-3=0|] */\n  y = x + 4;\n  /* (L6 C13) [|x-3=0; y-7=0|] */\nend\n/* rounds: 2 */\n",
+        ),
+        (
+            b"var x:int; // one\nbegin /* two */ x = ((3)); x = (x) + (0); end // three",
+            b"var x:int;\nbegin\n  /* (L2 C6) top */\n  x = 3;\n  /* (L2 C27) [|x-3=0|] */\n  x = x + 0;\n  /* (L2 C42) [|x-3=0|] */\nend\n/* rounds: 2 */\n",
+        ),
     ];
     for (text, report) in cases {
         let o = with_file(rt.alloc(), b"f", text)?;
-        expect(&rt, rt.alloc(), o, 0, report, b"");
+        expect(&rt, rt.alloc(), o, 0, report, b"")?;
+    }
+    Ok(())
+}
+
+/// Files that break a rule, each with the line that tells of it; then accepted ones that aren't analysed yet.
+const REFUSED: [(&[u8], &[u8]); 41] = [
+    (b"begin @ end", b"refused: BadByte at L1 C7\n"),
+    (b"begin /* x", b"refused: OpenComment at L1 C7\n"),
+    (
+        b"var x:int; begin x = y; end\n",
+        b"refused: UnknownVariable at L1 C22\n",
+    ),
+    (
+        b"var x:int;\nbegin\nx = 2305843009213693953;\nend\n",
+        b"refused: BigLiteral at L3 C5\n",
+    ),
+    (b"", b"refused: Syntax at L1 C1\n"),
+    (b"begin\nend\n\nend\n", b"refused: Syntax at L4 C1\n"),
+    (b"begin skip;", b"refused: Syntax at L1 C12\n"),
+    (
+        b"var x:real; begin end",
+        b"refused: UnsupportedType at L1 C7\n",
+    ),
+    (
+        b"var x:t; begin end",
+        b"refused: UnsupportedType at L1 C7\n",
+    ),
+    (
+        b"var x:int; begin x = x / 2; end",
+        b"refused: UnsupportedOperator at L1 C24\n",
+    ),
+    (
+        b"var x:int; begin x = 7 + x % 2; end",
+        b"refused: UnsupportedOperator at L1 C28\n",
+    ),
+    (
+        b"var x:int, x:int; begin end",
+        b"refused: DuplicateName at L1 C12\n",
+    ),
+    (
+        b"var x:int, y:int, y:int, x:int; begin end",
+        b"refused: DuplicateName at L1 C19\n",
+    ),
+    (
+        b"proc f() returns () begin end proc f() returns () begin end begin end",
+        b"refused: DuplicateName at L1 C36\n",
+    ),
+    (b"begin y = 1; end", b"refused: UnknownVariable at L1 C7\n"),
+    (
+        b"var x:int; begin x = f(x); end",
+        b"refused: UnknownProcedure at L1 C22\n",
+    ),
+    (
+        b"var x:int; begin x = f(x, x); end",
+        b"refused: UnknownProcedure at L1 C22\n",
+    ),
+    (
+        b"proc f(a:int) returns (r:int) begin end var x:int; begin x = f(x, x); end",
+        b"refused: WrongCount at L1 C62\n",
+    ),
+    (
+        b"proc f(a:int) returns (r:int) begin end var x:int; begin () = f(x); end",
+        b"refused: WrongCount at L1 C63\n",
+    ),
+    (
+        b"proc f(a:int) returns (r:int) begin end var x:int; begin x = f(y); end",
+        b"refused: UnknownVariable at L1 C64\n",
+    ),
+    (
+        b"proc f() returns (r:int, s:int) begin end var x:int; begin (x, x) = f(); end",
+        b"refused: RepeatedTarget at L1 C64\n",
+    ),
+    (
+        b"proc f() returns (r:int, s:int) begin end var x:int; begin (y, y) = f(); end",
+        b"refused: UnknownVariable at L1 C61\n",
+    ),
+    (
+        b"var x:int; begin x = x < 1; end",
+        b"refused: WrongKind at L1 C24\n",
+    ),
+    (
+        b"var x:int; begin x = x + random; end",
+        b"refused: WrongKind at L1 C26\n",
+    ),
+    (
+        b"var x:int; begin assume x; end",
+        b"refused: WrongKind at L1 C25\n",
+    ),
+    (
+        b"var x:int; begin if x < 1 and 2 then skip; endif; end",
+        b"refused: WrongKind at L1 C31\n",
+    ),
+    (
+        b"var x:int; begin while true do y = 1; done; end",
+        b"refused: UnknownVariable at L1 C32\n",
+    ),
+    (
+        b"proc f() returns () begin x = 1; end begin y = 1; end",
+        b"refused: UnknownVariable at L1 C27\n",
+    ),
+    (
+        b"proc f() returns () begin () = g(); end proc g() returns () begin end begin y = 1; end",
+        b"refused: UnknownVariable at L1 C77\n",
+    ),
+    (b"var x:int; begin halt; end", b"refused: NotYet\n"),
+    (b"var x:int; begin fail; end", b"refused: NotYet\n"),
+    (b"var x:int; begin assume x > 0; end", b"refused: NotYet\n"),
+    (b"var x:int; begin x = random; end", b"refused: NotYet\n"),
+    (b"var x:int; begin x = -1; end", b"refused: NotYet\n"),
+    (b"var x:int; begin x = x - 1; end", b"refused: NotYet\n"),
+    (b"var x:int; begin x = 1 + x; end", b"refused: NotYet\n"),
+    (b"var x:int; begin x = x + x; end", b"refused: NotYet\n"),
+    (b"begin if true then endif end", b"refused: NotYet\n"),
+    (b"begin while random do done end", b"refused: NotYet\n"),
+    (
+        b"proc f() returns () begin end begin end",
+        b"refused: NotYet\n",
+    ),
+    (
+        b"proc f(a:int) returns (r:int) begin r = a; end var x:int; begin x = f(x); end",
+        b"refused: NotYet\n",
+    ),
+];
+
+#[test]
+fn refusals(rt: HostRuntime) -> Result<(), Fail> {
+    for (text, line) in REFUSED {
+        let o = with_file(rt.alloc(), b"f", text)?;
+        expect(&rt, rt.alloc(), o, 3, b"", line)?;
     }
     Ok(())
 }
 
 #[test]
-fn refusals(rt: HostRuntime) -> Result<(), Fail> {
-    let cases: [&[u8]; 5] = [
-        b"begin @ end",
-        b"var x:int; begin x = y; end\n",
-        b"var x:int; begin x = 2305843009213693953; end",
-        b"var x:int, x:int; begin end",
-        b"",
-    ];
-    for text in cases {
-        let o = with_file(rt.alloc(), b"f", text)?;
-        expect(&rt, rt.alloc(), o, 3, b"", b"refused: NotYet\n");
-    }
+fn words_of_no_form_and_missing_files(rt: HostRuntime) -> Result<(), Fail> {
     let usage: &[u8] =
         b"usage: interproc [--delay N] [--descend N] [--full] [--domain dec|full] FILE\n";
     for word in [b"-x".as_slice(), b"\xff".as_slice()] {
         let o = with_file(rt.alloc(), word, b"begin end")?;
-        expect(&rt, rt.alloc(), o, 2, b"", usage);
+        expect(&rt, rt.alloc(), o, 2, b"", usage)?;
     }
     let mut two = with_file(rt.alloc(), b"f", b"begin end")?;
     two.words.push(b"f")?;
-    expect(&rt, rt.alloc(), two, 2, b"", usage);
+    expect(&rt, rt.alloc(), two, 2, b"", usage)?;
     for word in [b"-".as_slice(), b"".as_slice(), b"g".as_slice()] {
         let o = with_file(rt.alloc(), word, b"begin end")?;
-        expect(&rt, rt.alloc(), o, 4, b"", b"fault: CannotOpen\n");
+        expect(&rt, rt.alloc(), o, 4, b"", b"fault: CannotOpen\n")?;
+    }
+    Ok(())
+}
+
+/// A head, a piece so many times, and a tail; the status, and the line on the second stream.
+const LONG: [(&str, &str, usize, &str, u8, &str); 11] = [
+    ("begin", " skip;", 4094, " end", 0, ""),
+    (
+        "begin",
+        " skip;",
+        4095,
+        " end",
+        3,
+        "refused: TooManyPoints at L1 C24576\n",
+    ),
+    (
+        "begin",
+        " skip",
+        1025,
+        "",
+        3,
+        "refused: LongRun at L1 C5127\n",
+    ),
+    (
+        "var x:int; begin x = ",
+        "(",
+        64,
+        "",
+        3,
+        "refused: TooDeep at L1 C85\n",
+    ),
+    (
+        "var x:int; begin assume ",
+        "not ",
+        1000,
+        "x; end",
+        3,
+        "refused: WrongKind at L1 C4025\n",
+    ),
+    (
+        "var x:int; begin x = ",
+        "-",
+        1000,
+        "y; end",
+        3,
+        "refused: UnknownVariable at L1 C1022\n",
+    ),
+    (
+        "var x:int; begin ",
+        "if x < 1 then ",
+        63,
+        "y = 1; end",
+        3,
+        "refused: Syntax at L1 C907\n",
+    ),
+    (
+        "var ",
+        "x",
+        65,
+        ":int; begin end",
+        3,
+        "refused: LongName at L1 C5\n",
+    ),
+    ("var ", "x", 64, ":int; begin end", 0, ""),
+    ("", " ", 1048576, "", 3, "refused: Syntax at L1 C1048577\n"),
+    ("", " ", 1048577, "", 3, "refused: TooLong\n"),
+];
+
+#[test]
+fn long_files(rt: HostRuntime) -> Result<(), Fail> {
+    for (head, piece, count, tail, status, line) in LONG {
+        let mut text = Vec::new(rt.alloc());
+        text.extend_from_slice(head.as_bytes())?;
+        for _ in 0..count {
+            text.extend_from_slice(piece.as_bytes())?;
+        }
+        text.extend_from_slice(tail.as_bytes())?;
+        let o = with_file(rt.alloc(), b"f", &text)?;
+        expect_status(&rt, rt.alloc(), o, status, line.as_bytes())?;
+    }
+    Ok(())
+}
+
+/// A head, then for each number up to a count a piece with the number in it, and a tail; the status, and the line on
+/// the second stream.
+const NUMBERED: [(&str, &str, &str, u32, &str, u8, &str); 6] = [
+    ("var a:int", ", x", ":int", 127, "; begin end", 0, ""),
+    (
+        "var a:int",
+        ", x",
+        ":int",
+        128,
+        "; begin end",
+        3,
+        "refused: TooManyVariables at L1 C1172\n",
+    ),
+    (
+        "",
+        "proc p",
+        "() returns () begin end ",
+        256,
+        "begin end",
+        3,
+        "refused: NotYet\n",
+    ),
+    (
+        "",
+        "proc p",
+        "() returns () begin end ",
+        257,
+        "begin end",
+        3,
+        "refused: TooManyProcedures at L1 C8344\n",
+    ),
+    (
+        "proc f(a:int",
+        ", x",
+        ":int",
+        126,
+        ") returns () begin a = 1; end begin end",
+        3,
+        "refused: NotYet\n",
+    ),
+    (
+        "proc f(a:int",
+        ", x",
+        ":int",
+        127,
+        ") returns () begin a = 1; end begin end",
+        3,
+        "refused: TooManyVariables at L1 C1192\n",
+    ),
+];
+
+#[test]
+fn numbered_files(rt: HostRuntime) -> Result<(), Fail> {
+    for (head, before, after, count, tail, status, line) in NUMBERED {
+        let mut text = Vec::new(rt.alloc());
+        text.extend_from_slice(head.as_bytes())?;
+        for k in 0..count {
+            text.extend_from_slice(format!(in rt.alloc(); "{before}{k}{after}")?.as_bytes())?;
+        }
+        text.extend_from_slice(tail.as_bytes())?;
+        let o = with_file(rt.alloc(), b"f", &text)?;
+        expect_status(&rt, rt.alloc(), o, status, line.as_bytes())?;
+    }
+    Ok(())
+}
+
+#[test]
+fn fronts_of_a_file(rt: HostRuntime) -> Result<(), Fail> {
+    let text: &[u8] = b"var i:int;\nbegin\ni = 0;\nwhile i < 10 do\ni = i + 1;\ndone;\nend\n";
+    for front in 0..text.len() {
+        let o = with_file(rt.alloc(), b"f", &text[..front])?;
+        let Outside {
+            words,
+            mut files,
+            mut out,
+            mut err,
+        } = o;
+        let status = run(rt.alloc(), &words, &mut files, &mut out, &mut err);
+        assert_eq!(rt; status.number(), 3);
+        let line: &[u8] = if front < 60 {
+            b"refused: Syntax at L"
+        } else {
+            b"refused: NotYet\n"
+        };
+        assert!(rt; err.bytes().starts_with(line), "after {front} bytes");
     }
     Ok(())
 }
@@ -110,7 +432,7 @@ fn faults(rt: HostRuntime) -> Result<(), Fail> {
     let text: &[u8] = b"var x:int, y:int;\nbegin\nx = 3;\ny = x + 4;\nend\n";
     let mut reading = with_file(rt.alloc(), b"f", text)?;
     reading.files.fail_at(2)?;
-    expect(&rt, rt.alloc(), reading, 4, b"", b"fault: ReadFault\n");
+    expect(&rt, rt.alloc(), reading, 4, b"", b"fault: ReadFault\n")?;
     let mut writing = with_file(rt.alloc(), b"f", text)?;
     writing.out.fail_at(1)?;
     expect(
@@ -120,12 +442,12 @@ fn faults(rt: HostRuntime) -> Result<(), Fail> {
         4,
         b"var x:i",
         b"fault: WriteFault\n",
-    );
+    )?;
     let mut silent = with_file(rt.alloc(), b"f", b"begin @ end")?;
     silent.err.fail_at(0)?;
-    expect(&rt, rt.alloc(), silent, 3, b"", b"");
+    expect(&rt, rt.alloc(), silent, 3, b"", b"")?;
     let blanks = vec![in rt.alloc(); b' '; (1 << 20) + 1]?;
     let long = with_file(rt.alloc(), b"f", &blanks)?;
-    expect(&rt, rt.alloc(), long, 3, b"", b"refused: TooLong\n");
+    expect(&rt, rt.alloc(), long, 3, b"", b"refused: TooLong\n")?;
     Ok(())
 }

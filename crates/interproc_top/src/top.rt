@@ -5,10 +5,10 @@ ghost use Rattle.interproc_top.specs.Cause.{line_of};
 
 use crate::cause::{Cause, Status};
 use crate::command::names_a_file;
-use crate::laws::law_reports;
-use crate::report::report_text;
+use crate::stages::report_of;
 use spl_io::{Files, ReadAllError, Sink, Words, read_all, write_all};
-use spl_text::{SmallFault, law_one_reading, law_readings_in_range, small};
+use spl_parser::law_one_tree;
+use spl_text::law_one_cut_or_fault;
 use std::alloc::Global;
 
 /// Does all that the program does: reads the file that the words name, and writes its report to `out`.
@@ -52,7 +52,8 @@ pub fn run<F: Files, O: Sink, E: Sink>(
     ensures opens_nothing { result ≡ Status.Usage → files.new ≡ files.old }
     ensures same_files { F.files files.new ≡ F.files files.old }
 {
-    law_one_reading();
+    law_one_cut_or_fault();
+    law_one_tree();
     match work(alloc, words, files, out) {
         Ok(()) => Status::Proved,
         Err(cause) => {
@@ -94,16 +95,9 @@ fn work<F: Files, O: Sink>(
         Err(ReadAllError::TooLong) => return Err(Cause::TooLong),
         Err(ReadAllError::NoMemory) => return Err(Cause::NoMemory),
     };
-    let program = match small(alloc, &bytes) {
-        Ok(program) => program,
-        Err(SmallFault::NotYet) => return Err(Cause::NotYet),
-        Err(SmallFault::NoMemory) => return Err(Cause::NoMemory),
-    };
-    law_readings_in_range();
-    law_reports();
-    let text = match report_text(alloc, &bytes, &program) {
+    let text = match report_of(alloc, &bytes) {
         Ok(text) => text,
-        Err(_) => return Err(Cause::NoMemory),
+        Err(cause) => return Err(cause),
     };
     match write_all(out, &text) {
         Ok(()) => Ok(()),
@@ -115,5 +109,6 @@ fn work<F: Files, O: Sink>(
 fn tell<E: Sink>(err: &mut E, cause: Cause)
     ensures { Tells (E.faults err.old) (E.faults err.new) (E.written err.old) (E.written err.new) (line_of cause) }
 {
-    let _ = write_all(err, cause.line());
+    let line = cause.line();
+    let _ = write_all(err, line.as_str().as_bytes());
 }

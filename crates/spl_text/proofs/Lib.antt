@@ -1,15 +1,6 @@
 pub mod Chains
-pub mod Complete
 pub mod Cursors
-pub mod Cuts
-pub mod Digits
 pub mod FirstRule
-pub mod Names
 pub mod Numerals
-pub mod Ranges
-pub mod Readings
-pub mod Runs
 pub mod Searches
-pub mod Sound
 pub mod Spelling
-pub mod TakenTokens

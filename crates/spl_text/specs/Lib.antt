@@ -1,13 +1,10 @@
-pub mod Automaton
 pub mod Bytes
 pub mod Checked
 pub mod Gaps
 pub mod Keyword
-pub mod Lexis
 pub mod Pieces
 pub mod Place
 pub mod Signs
-pub mod SmallProgram
 pub mod Spans
 pub mod TextRules
 pub mod TokenList
