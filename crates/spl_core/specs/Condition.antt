@@ -1,0 +1,51 @@
+-- Conditions, and how they may come out in a state.
+use Rattle.std.specs.Prelude.{◌≡◌, ℕ, ◌⊎◌, Bool, true, false, not, List, ℤ, int_lt, int_le}
+use Rattle.std.specs.Ordering.{int_eq}
+use Rattle.spl_core.specs.Expression.{Expression, eval, IsOver}
+
+-- a comparison of two integers
+pub data Relation : Type 0 where
+  AtMost : Relation
+  Below : Relation
+  AtLeast : Relation
+  Above : Relation
+  Equal : Relation
+  Different : Relation
+
+-- a condition: a constant, a free choice, a negation, both, one of two, a comparison
+pub data Condition : Type 0 where
+  Constant : (value : Bool) → Condition
+  Random : Condition
+  Not : (c : Condition) → Condition
+  And : (c d : Condition) → Condition
+  Or : (c d : Condition) → Condition
+  Compare : (r : Relation) (a b : Expression) → Condition
+
+-- whether a comparison holds of two integers
+abbrev pub compares : Relation → ℤ → ℤ → Bool
+compares AtMost x y = int_le x y
+compares Below x y = int_lt x y
+compares AtLeast x y = int_le y x
+compares Above x y = int_lt y x
+compares Equal x y = int_eq x y
+compares Different x y = not (int_eq x y)
+
+-- a condition may come out so in a state
+abbrev pub May : Condition → List ℤ → Bool → Type 0
+May (Constant value) s b = b ≡ value
+May Random s b = Unit {0}
+May (Not c) s b = May c s (not b)
+May (And c d) s true = May c s true × May d s true
+May (And c d) s false = May c s false ⊎ May d s false
+May (Or c d) s true = May c s true ⊎ May d s true
+May (Or c d) s false = May c s false × May d s false
+May (Compare r a b) s wanted = compares r (eval a s) (eval b s) ≡ wanted
+
+-- each variable of the condition is one of the first n dimensions
+abbrev pub IsConditionOver : ℕ → Condition → Type 0
+IsConditionOver n (Constant value) = Unit {0}
+IsConditionOver n Random = Unit {0}
+IsConditionOver n (Not c) = IsConditionOver n c
+IsConditionOver n (And c d) = IsConditionOver n c × IsConditionOver n d
+IsConditionOver n (Or c d) = IsConditionOver n c × IsConditionOver n d
+IsConditionOver n (Compare r a b) = IsOver n a × IsOver n b

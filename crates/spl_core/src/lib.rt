@@ -1,0 +1,15 @@
+//! The core of a program: what the analysis and the runs of it see of the text.
+//!
+//! Procedures own points; edges between points say what is done on the way. The type keeps what makes this a program:
+//! numbers are in range, an input is never written, a call stands alone at its point.
+#![tactic(auto)]
+
+mod laws;
+mod parts;
+mod program;
+#[cfg(test)]
+mod tests;
+
+pub use laws::{law_examples, law_numbers};
+pub use parts::{Action, Cmp, CoreCond, CoreExpr, CoreParts, Edge, Proc, Span};
+pub use program::Core;
