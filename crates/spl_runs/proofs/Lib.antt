@@ -1,0 +1,13 @@
+pub mod Worked
+pub mod Fitting
+pub mod Trees
+pub mod Spelling
+pub mod Wide
+pub mod Progress
+pub mod Answering
+pub mod Parted
+pub mod Spans
+pub mod Edges
+pub mod Following
+pub mod Sound
+pub mod Either

@@ -1,0 +1,18 @@
+use Rattle.std.proofs.Common.{◌≡◌, ◌∙◌, ◌-◌, Some, List, length, subst}
+use Rattle.std.specs.Prelude.{slice_get}
+use Rattle.spl_runs.specs.declared.frame.Frame.{Frame as Held}
+use Rattle.spl_runs.specs.Stacks.{frame_of}
+use Rattle.spl_runs.proofs.Edges.{return_some, return_none}
+use Rattle.spl_runs.proofs.stack.Stack.return_edge.Goals as goal
+
+pub returns-in-Some-edge_out-clause-edge : goal.returns-in-Some-edge_out-clause-edge
+returns-in-Some-edge_out-clause-edge c =
+    let P : List Held → Type 0 = λ xs. Some c.in-Some.caller.now ≡ slice_get xs (length xs - 1) in
+    c.if_called.ensures.edge ∙ return_some c.args.core.now (frame_of c.args.self.now.top) c.args.self.now.below.items c.in-Some.caller.now c.in-Some-edge_out.edge
+    (subst P c.deref.ensures.value c.in-Some.ensures.value) c.in-Some-edge_out.ensures.found
+
+pub returns-in-None-edge_out-clause-edge : goal.returns-in-None-edge_out-clause-edge
+returns-in-None-edge_out-clause-edge c =
+    let P : List Held → Type 0 = λ xs. Some c.in-Some.caller.now ≡ slice_get xs (length xs - 1) in
+    return_none c.args.core.now (frame_of c.args.self.now.top) c.args.self.now.below.items c.in-Some.caller.now
+    (subst P c.deref.ensures.value c.in-Some.ensures.value) c.in-None-edge_out.ensures.found

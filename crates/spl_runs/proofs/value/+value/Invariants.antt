@@ -1,0 +1,4 @@
+use Rattle.spl_runs.proofs.value.+value.Given as goal
+
+abbrev pub decreases-value : goal.decreases-value
+decreases-value l = l.e

@@ -1,0 +1,12 @@
+pub mod Runs
+pub mod Choices
+pub mod Word
+pub mod ChoicesText
+pub mod Reading
+pub mod Read
+pub mod Replay
+pub mod Exact
+pub mod Stacks
+pub mod Seen
+pub mod Examples
+pub mod Laws

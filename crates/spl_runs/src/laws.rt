@@ -1,0 +1,22 @@
+//! Laws over the definitions, as calls whose contracts are the laws.
+ghost use Rattle.spl_runs.specs.Examples.{RunExamples};
+ghost use Rattle.spl_runs.specs.Laws.{ChoicesAreOne, FaultIsOne, HasNotBoth, HasOneOrOther, ReplaysAreRuns};
+
+/// The worked choices and replays of `specs/Examples.antt`.
+pub fn law_examples()
+    ensures { RunExamples }
+{}
+
+/// A text has the choices of one run or one first fault.
+pub fn law_choices()
+    ensures choices { ChoicesAreOne }
+    ensures either { HasOneOrOther }
+    ensures not_both { HasNotBoth }
+    ensures fault { FaultIsOne }
+{}
+
+/// What is replayed in the graph of a core is a run with the given start, whose stacks are those that the given steps
+/// choose one after another.
+pub fn law_replays()
+    ensures { ReplaysAreRuns }
+{}
