@@ -1,0 +1,5 @@
+pub mod Worked
+pub mod Statements
+pub mod Passing
+pub mod Standing
+pub mod Owning

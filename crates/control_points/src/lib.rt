@@ -1,0 +1,14 @@
+//! From a checked program to its core: control points, edges, and the places of points.
+#![tactic(auto)]
+
+mod built;
+mod laws;
+mod nodes;
+mod offsets;
+mod routines;
+#[cfg(test)]
+mod tests;
+
+pub use built::{Built, Fail};
+pub use laws::{law_examples, law_places};
+pub use offsets::offset_of;
