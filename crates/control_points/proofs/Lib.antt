@@ -2,4 +2,10 @@ pub mod Worked
 pub mod Statements
 pub mod Passing
 pub mod Standing
+pub mod Growing
+pub mod Naming
+pub mod Keeping
+pub mod Storing
+pub mod Moving
+pub mod Counting
 pub mod Owning

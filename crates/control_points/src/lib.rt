@@ -1,9 +1,15 @@
 //! From a checked program to its core: control points, edges, and the places of points.
 #![tactic(auto)]
 
+mod actions;
+mod builder;
 mod built;
+mod counts;
 mod laws;
+mod making;
+mod names;
 mod nodes;
+mod nodes_made;
 mod offsets;
 mod routines;
 #[cfg(test)]

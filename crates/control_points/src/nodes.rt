@@ -1,10 +1,11 @@
 //! The nodes of a tree, as what their numbers stand for.
 
-ghost use Rattle.std.specs.Prelude.{◌≡◌, ◌<◌, length, slice_index_or};
-ghost use Rattle.spl_tree.specs.Facts.{StmtFits, HasBlock};
-ghost use Rattle.spl_tree.specs.Meaning.{stmts_in, ground_in, stmt_at, stmt_over, span_of};
+ghost use Rattle.std.specs.Prelude.{◌≡◌, ◌<◌, ℕ, length, slice_index_or};
+ghost use Rattle.spl_tree.specs.Facts.{ExprFits, StmtFits, HasBlock, HasNames};
+ghost use Rattle.spl_tree.specs.Program.{Named};
+ghost use Rattle.spl_tree.specs.Meaning.{named_in, names_over, name_of, names_in, exprs_in, expr_at, expr_over, stmts_in, ground_in, stmt_at, stmt_over, span_of};
 
-use spl_tree::{Block, Stmt, StmtAt, StmtId, Tree, law_numbers};
+use spl_tree::{Block, Expr, ExprId, NameId, NameList, Stmt, StmtAt, StmtId, Tree, law_numbers};
 
 /// A statement, with its places.
 pub fn stmt_node(tree: &Tree, s: StmtId) -> (Stmt, StmtAt)
@@ -34,4 +35,47 @@ pub fn stmt_of(tree: &Tree, block: Block, i: u32) -> StmtId
 {
     let _all = tree.stmt_item_count();
     tree.stmt_item(block.first + i)
+}
+
+/// The bytes of a name.
+pub fn name<'t>(tree: &'t Tree, n: NameId) -> &'t [u8]
+    requires { n.0 < length tree.now.names }
+    ensures { result.now ≡ name_of (names_in tree.now) n }
+{
+    law_numbers();
+    tree.name_bytes(n)
+}
+
+/// An expression.
+pub fn expr_node(tree: &Tree, e: ExprId) -> Expr
+    requires { e.0 < length tree.now.exprs }
+    ensures stands { (at : ℕ) → expr_at (exprs_in tree.now) e ≡ expr_over (names_in tree.now) (exprs_in tree.now) result (slice_index_or tree.now.expr_places e.0 at) }
+    ensures found { result ≡ slice_index_or tree.now.exprs e.0 result }
+    ensures fits { ExprFits tree.now e.0 result }
+{
+    law_numbers();
+    tree.expr(e)
+}
+
+/// How many names a list of a call has.
+pub fn name_count(tree: &Tree, list: NameList) -> u32
+    requires { HasNames tree.now list }
+    ensures { result ≡ length (names_over (named_in tree.now) list) }
+{
+    law_numbers();
+    let _all = tree.name_item_count();
+    list.count
+}
+
+/// A name in a list of a call, with its place.
+pub fn name_node(tree: &Tree, list: NameList, i: u32) -> (NameId, usize)
+    requires has { HasNames tree.now list }
+    requires within { i < length (names_over (named_in tree.now) list) }
+    ensures stands { (d : Named) → slice_index_or (names_over (named_in tree.now) list) i d ≡ record { name = name_of (names_in tree.now) result.0; at = result.1 } }
+    ensures fits { (result.0).0 < length tree.now.names }
+{
+    law_numbers();
+    let _all = tree.name_item_count();
+    let k = list.first + i;
+    (tree.name_item(k), tree.name_item_place(k))
 }

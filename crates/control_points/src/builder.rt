@@ -1,0 +1,140 @@
+//! A core that is being built: edges, fails and points, added one after the other.
+
+ghost use Rattle.std.specs.Prelude.{◌≡◌, ◌<◌, ◌≤◌, ◌+◌, ◌-◌, ◌++◌, ◌∷◌, ◌^◌, [], ℕ, length, IfOk, OnOk};
+ghost use Rattle.spl_tree.specs.Facts.{HasNames};
+ghost use Rattle.spl_tree.specs.Meaning.{exprs_in as trees_in, expr_at as tree_at, named_in, names_over};
+ghost use Rattle.spl_core.specs.Parts.{span_dims};
+ghost use Rattle.spl_core.specs.Graph.{move_of};
+ghost use Rattle.control_points.specs.CoreOf.{arc, dimensions_in};
+ghost use Rattle.control_points.specs.Nodes.{IsMade, Grows};
+ghost use Rattle.control_points.specs.Building.{Adds, ActionIsIn, SpanIsIn, SpansStay};
+
+use crate::built::Fail;
+use crate::making::{Source, translate};
+use crate::nodes::{name, name_count, name_node};
+use crate::nodes_made::{Made, Nodes};
+use spl_core::{Action, Edge, Span};
+use spl_tree::{ExprId, NameList};
+use spl_types::NoMemory;
+use std::alloc::Global;
+use std::marker::Model;
+
+/// The most edges. A core's numbers leave no room for more.
+const MOST_ITEMS: usize = (1 << 31) - 1;
+
+/// What is built so far. `none` is what stands for a number or a condition where there is none.
+#[derive(Drop)]
+pub struct Builder {
+    nodes: Nodes,
+    none: Made,
+    edges: Vec<Edge>,
+    dims: Vec<u32>,
+    fails: Vec<Fail>,
+    points: u32,
+}
+
+impl Model for Builder {
+    ghost use Rattle.control_points.specs.Building.{Building, building, IsBuilding};
+
+    ghost Value = { Building };
+
+    ghost view = { λ b. building b.nodes b.edges.items b.dims.items b.fails.items b.points };
+
+    ghost invariant = { λ b. IsBuilding (building b.nodes b.edges.items b.dims.items b.fails.items b.points).parts b.none };
+}
+
+impl Builder {
+    /// How many points were met.
+    pub fn points(&self) -> u32
+        ensures { result ≡ self.now.points }
+    {
+        self.points
+    }
+
+    /// A point is met.
+    pub fn meet_point(&mut self)
+        requires { self.old.points < 2 ^ 31 }
+        ensures { Adds [] [] (self.old.points + 1) self.old self.new }
+    {
+        self.points += 1;
+    }
+
+    /// Makes an expression of the tree, as a number and as a condition.
+    pub fn make(&mut self, alloc: Global, source: &Source, root: ExprId) -> Result<Made, NoMemory>
+        requires { root.0 < length source.now.tree.now.exprs }
+        ensures made { IfOk result (λ m. IsMade self.new.parts source.now.names.now (tree_at (trees_in source.now.tree.now) root) m) }
+        ensures adds { IfOk result (λ m. Adds [] [] self.old.points self.old self.new) }
+    {
+        let none = self.none;
+        let made = translate(alloc, source, &mut self.nodes, none, root)?;
+        Ok(made)
+    }
+
+    /// Adds an edge.
+    pub fn push_edge(&mut self, source: u32, target: u32, action: Action) -> Result<(), NoMemory>
+        requires { ActionIsIn self.old.parts action }
+        ensures { IfOk result (λ _. Adds (arc source target (move_of self.old.parts action) ∷ []) [] self.old.points self.old self.new) }
+    {
+        if self.edges.len() >= MOST_ITEMS - 1 {
+            return Err(NoMemory);
+        }
+        let edge = Edge {
+            source,
+            target,
+            action,
+        };
+        match self.edges.push(edge) {
+            Ok(()) => {}
+            Err(_) => return Err(NoMemory),
+        }
+        Ok(())
+    }
+
+    /// Adds a `fail` at the point that was met last.
+    pub fn push_fail(&mut self, offset: usize) -> Result<(), NoMemory>
+        requires { 0 < self.old.points }
+        ensures { IfOk result (λ _. Adds [] (record { point = self.old.points - 1; offset = offset } ∷ []) self.old.points self.old self.new) }
+    {
+        let fail = Fail {
+            point: self.points - 1,
+            offset,
+        };
+        match self.fails.push(fail) {
+            Ok(()) => {}
+            Err(_) => return Err(NoMemory),
+        }
+        Ok(())
+    }
+
+    /// Adds the dimensions that names of a call stand for, and answers where they are.
+    pub fn push_names(&mut self, source: &Source, list: NameList) -> Result<Span, NoMemory>
+        requires { HasNames source.now.tree.now list }
+        ensures there { IfOk result (λ s. SpanIsIn self.new.parts s) }
+        ensures stands { IfOk result (λ s. span_dims self.new.parts s ≡ dimensions_in source.now.names.now (names_over (named_in source.now.tree.now) list)) }
+        ensures stay { IfOk result (λ s. SpansStay self.old.parts self.new.parts) }
+        ensures adds { IfOk result (λ s. Adds [] [] self.old.points self.old self.new) }
+    {
+        let first = self.dims.len() as u32;
+        let count = name_count(source.tree, list);
+        for i in 0..count {
+            let (named, _) = name_node(source.tree, list, i);
+            self.push_dim(source.names.dimension(name(source.tree, named)))?;
+        }
+        Ok(Span { first, count })
+    }
+
+    /// Adds a dimension to those that spans have.
+    fn push_dim(&mut self, dim: u32) -> Result<(), NoMemory>
+        ensures pushed { IfOk result (λ _. self.new.parts.dims ≡ self.old.parts.dims ++ dim ∷ []) }
+        ensures adds { IfOk result (λ _. Adds [] [] self.old.points self.old self.new) }
+    {
+        if self.dims.len() >= MOST_ITEMS - 1 {
+            return Err(NoMemory);
+        }
+        match self.dims.push(dim) {
+            Ok(()) => {}
+            Err(_) => return Err(NoMemory),
+        }
+        Ok(())
+    }
+}
