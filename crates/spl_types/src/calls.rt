@@ -50,7 +50,8 @@ fn called_procedure(
     ensures { Answers result (call_checks (scope_in scope.now) (names_over (named_in scope.now.tree.now) list) (name_of (names_in scope.now.tree.now) called) (names_over (named_in scope.now.tree.now) args) at) }
 {
     law_numbers();
-    let _procs = scope.tree.proc_count();
+    // for its clause, that the parts are those of a tree
+    let _all = scope.tree.proc_count();
     let number = match scope.procs.number(name(scope.tree, called)) {
         Some(number) => number,
         None => return Err(CheckFault::Broken(CheckRule::UnknownProcedure, at)),

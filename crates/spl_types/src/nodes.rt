@@ -1,4 +1,6 @@
 //! The nodes of a tree, as what their numbers stand for.
+//!
+//! A count that no code reads (`_all`) is asked for its clause, that the parts are those of a tree.
 
 ghost use Rattle.std.specs.Prelude.{◌≡◌, ◌<◌, ◌≤◌, ◌^◌, length, slice_index_or};
 ghost use Rattle.spl_tree.specs.Program.{Named, Declared, ProcMeaning};

@@ -82,18 +82,13 @@ pub fn named_procedure<'t>(
     ensures { (d : ProcMeaning) → AnswersWith result (named_checks (procs_in tree.now) (proc_names (take p (procs_in tree.now))) points (slice_index_or (procs_in tree.now) p d)) (λ w. (p < 256) × HasMet (scope_of (procs_in tree.now) (procedure_of (slice_index_or (procs_in tree.now) p d))) (met_by_end points (procedure_of (slice_index_or (procs_in tree.now) p d))) w) }
 {
     law_numbers();
+    // for its clause, that the parts are those of a tree
     let _all = tree.proc_count();
     let (proc, at) = proc_node(tree, p);
     demand(p < MOST_PROCEDURES, CheckRule::TooManyProcedures, at.name)?;
     let first = is_first(tree, procs, name(tree, proc.name), p);
     demand(first, CheckRule::DuplicateName, at.name)?;
-    let routine = Routine {
-        inputs: proc.inputs,
-        outputs: proc.outputs,
-        locals: proc.locals,
-        begin: at.begin,
-        body: proc.body,
-    };
+    let routine = routine_at(tree, p);
     procedure(alloc, tree, procs, routine, points)
 }
 
@@ -105,6 +100,7 @@ fn is_first<'t>(tree: &Tree, procs: &ProcTable<'t>, name: &[u8], p: u32) -> bool
     ensures { result ≡ not (is_among name.now (proc_names (take p (procs_in tree.now)))) }
 {
     law_numbers();
+    // for its clause, that the parts are those of a tree
     let _all = tree.proc_count();
     match procs.number(name) {
         Some(first) => first == p,

@@ -58,7 +58,6 @@ pub fn meet_target(
     requires { Distinct scope.now.declared }
     ensures { StepsToTarget (scope_in scope.now) number at walk.old walk.new result }
 {
-    let _inputs = scope.inputs;
     if number >= walk.copies.assigned.len() {
         return Ok(());
     }
