@@ -8,4 +8,6 @@ pub mod Keeping
 pub mod Storing
 pub mod Moving
 pub mod Counting
+pub mod Emitted
+pub mod Adding
 pub mod Owning

@@ -6,3 +6,4 @@ pub mod Nodes
 pub mod Making
 pub mod Building
 pub mod Laws
+pub mod Emitting

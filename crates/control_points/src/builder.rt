@@ -13,7 +13,7 @@ use crate::built::Fail;
 use crate::making::{Source, translate};
 use crate::nodes::{name, name_count, name_node};
 use crate::nodes_made::{Made, Nodes};
-use spl_core::{Action, Edge, Span};
+use spl_core::{Action, CoreCond, CoreExpr, Edge, Span};
 use spl_tree::{ExprId, NameList};
 use spl_types::NoMemory;
 use std::alloc::Global;
@@ -44,6 +44,26 @@ impl Model for Builder {
 }
 
 impl Builder {
+    /// Without edges and fails, before any point.
+    pub fn new(alloc: Global) -> Result<Builder, NoMemory>
+        ensures edges { IfOk result (λ b. b.parts.edges ≡ []) }
+        ensures dims { IfOk result (λ b. b.parts.dims ≡ []) }
+        ensures fails { IfOk result (λ b. b.fails ≡ []) }
+        ensures points { IfOk result (λ b. b.points ≡ 0) }
+    {
+        let mut nodes = Nodes::new(alloc);
+        let number = nodes.push_expr(CoreExpr::Number(0))?;
+        let condition = nodes.push_cond(CoreCond::Random)?;
+        Ok(Builder {
+            nodes,
+            none: Made { number, condition },
+            edges: Vec::new(alloc),
+            dims: Vec::new(alloc),
+            fails: Vec::new(alloc),
+            points: 0,
+        })
+    }
+
     /// How many points were met.
     pub fn points(&self) -> u32
         ensures { result ≡ self.now.points }
@@ -73,7 +93,9 @@ impl Builder {
     /// Adds an edge.
     pub fn push_edge(&mut self, source: u32, target: u32, action: Action) -> Result<(), NoMemory>
         requires { ActionIsIn self.old.parts action }
-        ensures { IfOk result (λ _. Adds (arc source target (move_of self.old.parts action) ∷ []) [] self.old.points self.old self.new) }
+        ensures adds { IfOk result (λ _. Adds (arc source target (move_of self.old.parts action) ∷ []) [] self.old.points self.old self.new) }
+        ensures exprs { IfOk result (λ _. self.new.parts.exprs ≡ self.old.parts.exprs) }
+        ensures conds { IfOk result (λ _. self.new.parts.conds ≡ self.old.parts.conds) }
     {
         if self.edges.len() >= MOST_ITEMS - 1 {
             return Err(NoMemory);

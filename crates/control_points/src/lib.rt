@@ -5,6 +5,7 @@ mod actions;
 mod builder;
 mod built;
 mod counts;
+mod edges;
 mod laws;
 mod making;
 mod names;

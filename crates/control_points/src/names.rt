@@ -1,12 +1,16 @@
 //! Names, and the dimensions that they stand for.
 
-ghost use Rattle.std.specs.Prelude.{◌≡◌, ◌++◌, ◌∷◌, [], length, position, IfOk, ◌≤◌};
+ghost use Rattle.std.specs.Prelude.{◌≡◌, ◌++◌, ◌∷◌, [], not, true, length, position, IfOk, ◌≤◌};
 ghost use Rattle.std.specs.Str.{bytes_eq};
 ghost use Rattle.spl_types.specs.Tables.{Distinct};
-ghost use Rattle.spl_types.specs.Checks.{is_among};
+ghost use Rattle.spl_types.specs.Checks.{is_among, declared_names};
+ghost use Rattle.spl_tree.specs.Facts.{HasDecls};
+ghost use Rattle.spl_tree.specs.Meaning.{decls_in, decls_over};
 ghost use Rattle.control_points.specs.CoreOf.{dimension_in, place_in};
 
+use crate::nodes::{decl_count, decl_node, name};
 use indexmap::IndexSet;
+use spl_tree::{DeclList, Tree};
 use spl_types::NoMemory;
 use std::alloc::Global;
 use std::marker::Model;
@@ -51,6 +55,30 @@ impl<'t> NameTable<'t> {
         ensures { result ≡ position (bytes_eq name.now) self.now }
     {
         self.names.get_index_of(name)
+    }
+
+    /// Adds a name at the end, if it isn't there, and says whether it wasn't.
+    pub fn add(&mut self, name: &'t [u8]) -> Result<bool, NoMemory>
+        ensures fresh { IfOk result (λ fresh. fresh ≡ not (is_among name.now self.old)) }
+        ensures added { IfOk result (λ fresh. fresh ≡ true → self.new ≡ self.old ++ name.now ∷ []) }
+    {
+        let fresh = match self.names.insert(name) {
+            Ok(fresh) => fresh,
+            Err(_) => return Err(NoMemory),
+        };
+        Ok(fresh)
+    }
+
+    /// Adds the names of declarations. Those of an accepted program differ, so all of them are added.
+    pub fn add_declared(&mut self, tree: &'t Tree, list: DeclList) -> Result<(), NoMemory>
+        requires { HasDecls tree.now list }
+        ensures { IfOk result (λ _. let xs = declared_names (decls_over (decls_in tree.now) list) in Distinct (self.old ++ xs) → self.new ≡ self.old ++ xs) }
+    {
+        for i in 0..decl_count(tree, list) {
+            let (decl, _) = decl_node(tree, list, i);
+            self.add(name(tree, decl.name))?;
+        }
+        Ok(())
     }
 }
 

@@ -1,11 +1,14 @@
 //! The nodes of a tree, as what their numbers stand for.
 
 ghost use Rattle.std.specs.Prelude.{◌≡◌, ◌<◌, ℕ, length, slice_index_or};
-ghost use Rattle.spl_tree.specs.Facts.{ExprFits, StmtFits, HasBlock, HasNames};
-ghost use Rattle.spl_tree.specs.Program.{Named};
-ghost use Rattle.spl_tree.specs.Meaning.{named_in, names_over, name_of, names_in, exprs_in, expr_at, expr_over, stmts_in, ground_in, stmt_at, stmt_over, span_of};
+ghost use Rattle.spl_tree.specs.Facts.{ExprFits, StmtFits, DeclFits, HasBlock, HasDecls, HasNames};
+ghost use Rattle.spl_tree.specs.Program.{Declared, Named};
+ghost use Rattle.spl_tree.specs.Meaning.{named_in, names_over, name_of, names_in, exprs_in, expr_at, expr_over, stmts_in, ground_in, stmt_at, stmt_over, span_of, decls_in, decls_over, declared_of};
 
-use spl_tree::{Block, Expr, ExprId, NameId, NameList, Stmt, StmtAt, StmtId, Tree, law_numbers};
+use spl_tree::{
+    Block, Decl, DeclAt, DeclList, Expr, ExprId, NameId, NameList, Stmt, StmtAt, StmtId, Tree,
+    law_numbers,
+};
 
 /// A statement, with its places.
 pub fn stmt_node(tree: &Tree, s: StmtId) -> (Stmt, StmtAt)
@@ -78,4 +81,27 @@ pub fn name_node(tree: &Tree, list: NameList, i: u32) -> (NameId, usize)
     let _all = tree.name_item_count();
     let k = list.first + i;
     (tree.name_item(k), tree.name_item_place(k))
+}
+
+/// How many declarations a list has.
+pub fn decl_count(tree: &Tree, list: DeclList) -> u32
+    requires { HasDecls tree.now list }
+    ensures { result ≡ length (decls_over (decls_in tree.now) list) }
+{
+    law_numbers();
+    let _all = tree.decl_count();
+    list.count
+}
+
+/// A declaration of a list, with its places.
+pub fn decl_node(tree: &Tree, list: DeclList, i: u32) -> (Decl, DeclAt)
+    requires has { HasDecls tree.now list }
+    requires within { i < length (decls_over (decls_in tree.now) list) }
+    ensures stands { (d : Declared) → slice_index_or (decls_over (decls_in tree.now) list) i d ≡ declared_of (names_in tree.now) result.0 result.1 }
+    ensures fits { DeclFits tree.now result.0 }
+{
+    law_numbers();
+    let _all = tree.decl_count();
+    let k = list.first + i;
+    (tree.decl(k), tree.decl_place(k))
 }

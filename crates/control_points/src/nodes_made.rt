@@ -1,12 +1,13 @@
 //! Expressions and conditions of a core that is being built.
 
-ghost use Rattle.std.specs.Prelude.{◌≡◌, ◌<◌, length, IfOk};
+ghost use Rattle.std.specs.Prelude.{◌≡◌, ◌<◌, [], length, IfOk};
 ghost use Rattle.spl_core.specs.Facts.{ExprFits, CondFits};
 ghost use Rattle.spl_core.specs.Graph.{expr_at, expr_over, exprs_in, cond_at, cond_over, conds_in};
-ghost use Rattle.control_points.specs.Nodes.{Grows};
+ghost use Rattle.control_points.specs.Nodes.{nodes_of, Grows};
 
 use spl_core::{CoreCond, CoreExpr};
 use spl_types::NoMemory;
+use std::alloc::Global;
 use std::marker::Model;
 
 /// The most expressions, and the most conditions. A core's numbers leave no room for more.
@@ -38,6 +39,16 @@ impl Model for Nodes {
 }
 
 impl Nodes {
+    /// No expressions and no conditions.
+    pub fn new(alloc: Global) -> Nodes
+        ensures { result ≡ nodes_of [] [] }
+    {
+        Nodes {
+            exprs: Vec::new(alloc),
+            conds: Vec::new(alloc),
+        }
+    }
+
     /// Adds an expression over those that are there, and answers its number.
     pub fn push_expr(&mut self, expr: CoreExpr) -> Result<u32, NoMemory>
         requires { ExprFits (length self.old.exprs) expr }
