@@ -10,7 +10,8 @@ use Rattle.oct_def.proofs.Bounds.{half_low, half_high}
 use Rattle.oct_def.proofs.Indices.{some_index-none}
 use Rattle.oct_def.proofs.Tables.{length-table, at-table, square-table, is-table}
 use Rattle.spl_core.specs.Expression.{Expression}
-use Rattle.interval_form.specs.Interval.{Interval, IsOutward, point, unbounded, negated, negated_bound, sum_of, difference_of, product_of, range_between, range_of, ranges_of, range_at, wider}
+use Rattle.interval_form.specs.declared.interval.Interval.{Interval}
+use Rattle.interval_form.specs.Interval.{IsOutward, point, unbounded, negated, negated_bound, sum_of, difference_of, product_of, range_between, range_of, ranges_of, range_at, wider}
 use Rattle.interval_form.specs.Form.{Form, nothing, coefficient, form_of, form_value, has_unbounded_term, has_unbounded_terms}
 use Rattle.interval_form.specs.Linear.{unit_term, variable_form, settled, difference_term, difference_form, linear_form}
 use Rattle.interval_form.specs.FormBounds.{rest_bound, pair_bound, unary_bound, form_entry, form_matrix, form_bounds, least_entry, least_matrix, bounded}

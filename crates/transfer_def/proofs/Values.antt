@@ -11,7 +11,7 @@ use Rattle.oct_def.proofs.Tables.{length-table, at-table, square-table, at-past_
 use Rattle.oct_def.proofs.Coherent.{coherent-table, twin}
 use Rattle.oct_def.proofs.Values.{each-table, value-tight}
 use Rattle.spl_core.specs.Expression.{Expression, Variable}
-use Rattle.interval_form.specs.Interval.{Interval}
+use Rattle.interval_form.specs.declared.interval.Interval.{Interval}
 use Rattle.interval_form.specs.Form.{Form}
 use Rattle.interval_form.specs.FormBounds.{bounded}
 use Rattle.interval_form.specs.Laws.{IsMatrixOver}
