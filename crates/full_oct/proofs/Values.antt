@@ -9,7 +9,7 @@ use Rattle.oct_def.specs.Tight.{tight}
 use Rattle.oct_def.specs.Octagon.{Octagon, IsOctagon, IsValueOver, top_value, top_matrix, tight_value}
 use Rattle.oct_def.proofs.Lattice.{octagon-top}
 use Rattle.oct_def.proofs.Values.{value-tight}
-use Rattle.interval_form.specs.Expression.{Expression, Number, Variable, Add}
+use Rattle.spl_core.specs.Expression.{Expression, Number, Variable, Add}
 use Rattle.transfer_def.specs.Assign.{then_do, equated, renamed_option, assigned, assign_value}
 use Rattle.transfer_def.specs.Special.{constant_entry, offset_entry}
 use Rattle.transfer_def.proofs.Expressions.{equated-number, equated-variable, equated-plus}

@@ -9,13 +9,14 @@ use Rattle.oct_def.specs.Matrix.{IsSquare, IsMatrix}
 use Rattle.oct_def.proofs.Bounds.{half_low, half_high}
 use Rattle.oct_def.proofs.Indices.{some_index-none}
 use Rattle.oct_def.proofs.Tables.{length-table, at-table, square-table, is-table}
-use Rattle.interval_form.specs.Expression.{Expression}
-use Rattle.interval_form.specs.Interval.{Interval, IsOutward, point, unbounded, negated, negated_bound, sum_of, difference_of, product_of, range_between, range_of, ranges_of, range_at, wider}
+use Rattle.spl_core.specs.Expression.{Expression}
+use Rattle.interval_form.specs.declared.interval.Interval.{Interval}
+use Rattle.interval_form.specs.Interval.{IsOutward, point, unbounded, negated, negated_bound, sum_of, difference_of, product_of, range_between, range_of, ranges_of, range_at, wider}
 use Rattle.interval_form.specs.Form.{Form, nothing, coefficient, form_of, form_value, has_unbounded_term, has_unbounded_terms}
 use Rattle.interval_form.specs.Linear.{unit_term, variable_form, settled, difference_term, difference_form, linear_form}
 use Rattle.interval_form.specs.FormBounds.{rest_bound, pair_bound, unary_bound, form_entry, form_matrix, form_bounds, least_entry, least_matrix, bounded}
 use Rattle.interval_form.proofs.Forms.{coefficient-form_of, coefficient-form_of_past, constant-form_of}
-use Rattle.interval_form.proofs.Bounds.{range_at-ranges_of, length-ranges_of}
+use Rattle.interval_form.proofs.Bounding.{range_at-ranges_of, length-ranges_of}
 use Rattle.interval_form.proofs.Exact.{sum_of-nothing, nothing-sum_of, low-product_unbounded, low-product_minus_unbounded, low-product_one, low-product_minus, pair_bound-one, unary_bound-one, unary_bound-sum}
 use Rattle.transfer_def.specs.Assign.{then_do, extended_entry, extended, extended_ranges, form_minus_new, new_minus_form, equated}
 use Rattle.transfer_def.specs.Special.{twice_entry, sum_entry, constant_entry, twice_plus, lower_bound, upper_bound, below_entry, above_entry, offset_entry}

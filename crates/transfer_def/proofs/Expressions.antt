@@ -7,12 +7,13 @@ use Rattle.oct_def.specs.Table.{Matrix, table}
 use Rattle.oct_def.specs.Matrix.{IsMatrix}
 use Rattle.oct_def.specs.Tight.{tight}
 use Rattle.oct_def.proofs.Bounds.{clamped-in_range}
-use Rattle.interval_form.specs.Expression.{Expression, Number, Variable, Neg, Add, Sub}
-use Rattle.interval_form.specs.Interval.{Interval, IsOutward, point, negated, sum_of, difference_of, ranges_of}
+use Rattle.spl_core.specs.Expression.{Expression, Number, Variable, Neg, Add, Sub}
+use Rattle.interval_form.specs.declared.interval.Interval.{Interval}
+use Rattle.interval_form.specs.Interval.{IsOutward, point, negated, sum_of, difference_of, ranges_of}
 use Rattle.interval_form.specs.Form.{Form, nothing, coefficient, form_of, has_unbounded_term}
 use Rattle.interval_form.specs.Linear.{no_terms, constant_form, settled, negated_term, negated_form, sum_term, sum_form, difference_term, difference_form, linear_form}
 use Rattle.interval_form.proofs.Forms.{coefficient-form_of, coefficient-form_of_past, constant-form_of}
-use Rattle.interval_form.proofs.Bounds.{length-ranges_of}
+use Rattle.interval_form.proofs.Bounding.{length-ranges_of}
 use Rattle.interval_form.proofs.Exact.{clamped_low-in_range, outward-point}
 use Rattle.transfer_def.specs.Assign.{equated, assigned, renamed_option}
 use Rattle.transfer_def.specs.Special.{constant_entry, offset_entry}

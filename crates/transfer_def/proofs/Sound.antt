@@ -9,7 +9,7 @@ use Rattle.oct_def.specs.Matrix.{value_at, signed_value, Meets, MeetsValue}
 use Rattle.oct_def.specs.Tight.{tight}
 use Rattle.oct_def.specs.Octagon.{Octagon, MeetsOctagon, top_entry}
 use Rattle.oct_def.proofs.Sound.{difference, meets-table, meets-tight}
-use Rattle.interval_form.specs.Expression.{Expression, Variable, IsOver, eval}
+use Rattle.spl_core.specs.Expression.{Expression, Variable, IsOver, eval}
 use Rattle.interval_form.specs.Interval.{Holds, InRanges, unbounded, range_at, ranges_of}
 use Rattle.interval_form.specs.Form.{Form, nothing, coefficient, Reads, weighted_sum}
 use Rattle.interval_form.specs.Linear.{linear_form, variable_form, difference_form}
@@ -18,7 +18,7 @@ use Rattle.interval_form.proofs.Integers.{zero-*ℤ-is}
 use Rattle.interval_form.proofs.Intervals.{Holds-point}
 use Rattle.interval_form.proofs.Forms.{dropped, dropped-same, dropped-other, weighted_sum-same, coefficient_past}
 use Rattle.interval_form.proofs.Linear.{Reads-linear_form, Reads-variable_form, Reads-difference_form, length-linear_form}
-use Rattle.interval_form.proofs.Bounds.{in_ranges-ranges_of, length-ranges_of, meets-bounded}
+use Rattle.interval_form.proofs.Bounding.{in_ranges-ranges_of, length-ranges_of, meets-bounded}
 use Rattle.transfer_def.specs.Assign.{then_do, extended_entry, extended, extended_ranges, form_minus_new, new_minus_form, equated, place_of, renamed_entry, renamed, renamed_option, assigned, assign_value}
 use Rattle.transfer_def.specs.Copies.{Copy, copied_state, copy_value, AreOver}
 use Rattle.transfer_def.specs.Forget.{forgotten_entry, forgotten, forgotten_option, forget_value}

@@ -10,14 +10,14 @@ use Rattle.oct_def.specs.Tight.{tight}
 use Rattle.oct_def.specs.Octagon.{Octagon, MeetsOctagon, IsOctagon, IsValueOver, bottom_value, join_value}
 use Rattle.oct_def.proofs.Sound.{meets-tight}
 use Rattle.oct_def.proofs.Lattice.{octagon-join, meets-join}
-use Rattle.interval_form.specs.Expression.{Expression, IsOver, eval}
+use Rattle.spl_core.specs.Expression.{Expression, IsOver, eval}
 use Rattle.interval_form.specs.Interval.{point, ranges_of}
 use Rattle.interval_form.specs.Form.{Form, Reads}
 use Rattle.interval_form.specs.Linear.{constant_form, linear_form}
 use Rattle.interval_form.specs.FormBounds.{bounded}
 use Rattle.interval_form.proofs.Intervals.{Holds-point}
 use Rattle.interval_form.proofs.Linear.{Reads-linear_form, Reads-difference_form, Reads-sum_form, Reads-constant_form}
-use Rattle.interval_form.proofs.Bounds.{in_ranges-ranges_of, length-ranges_of, meets-bounded}
+use Rattle.interval_form.proofs.Bounding.{in_ranges-ranges_of, length-ranges_of, meets-bounded}
 use Rattle.transfer_def.specs.Assign.{then_do}
 use Rattle.transfer_def.specs.Condition.{Relation, AtMost, Below, AtLeast, Above, Equal, Different, Condition, Constant, Random, Not, And, Or, Compare, compares, May, IsConditionOver}
 use Rattle.transfer_def.specs.Test.{difference_in, difference_and_one, restricted, restrict_at_most, restrict_below, at_most_value, below_value, equal_value, different_value, compare_value, constant_value, test_value}

@@ -10,8 +10,8 @@ use Rattle.oct_def.proofs.Indices.{opposite_below, opposite_same}
 use Rattle.oct_def.proofs.Tables.{length-table, at-table, square-table, at-past_row}
 use Rattle.oct_def.proofs.Coherent.{coherent-table, twin}
 use Rattle.oct_def.proofs.Values.{each-table, value-tight}
-use Rattle.interval_form.specs.Expression.{Expression, Variable}
-use Rattle.interval_form.specs.Interval.{Interval}
+use Rattle.spl_core.specs.Expression.{Expression, Variable}
+use Rattle.interval_form.specs.declared.interval.Interval.{Interval}
 use Rattle.interval_form.specs.Form.{Form}
 use Rattle.interval_form.specs.FormBounds.{bounded}
 use Rattle.interval_form.specs.Laws.{IsMatrixOver}

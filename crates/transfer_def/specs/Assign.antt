@@ -6,8 +6,9 @@ use Rattle.oct_def.specs.Bound.{Bound}
 use Rattle.oct_def.specs.Table.{Matrix, table, at}
 use Rattle.oct_def.specs.Tight.{tight}
 use Rattle.oct_def.specs.Octagon.{Octagon, top_entry}
-use Rattle.interval_form.specs.Expression.{Expression}
-use Rattle.interval_form.specs.Interval.{Interval, unbounded, ranges_of}
+use Rattle.spl_core.specs.Expression.{Expression}
+use Rattle.interval_form.specs.declared.interval.Interval.{Interval}
+use Rattle.interval_form.specs.Interval.{unbounded, ranges_of}
 use Rattle.interval_form.specs.Form.{Form}
 use Rattle.interval_form.specs.Linear.{linear_form, variable_form, difference_form}
 use Rattle.interval_form.specs.FormBounds.{bounded}

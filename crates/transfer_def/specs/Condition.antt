@@ -1,7 +1,7 @@
 -- Conditions, and how they may come out in a state.
 use Rattle.std.specs.Prelude.{◌≡◌, ℕ, ◌⊎◌, Bool, true, false, not, List, ℤ, int_lt, int_le}
 use Rattle.std.specs.Ordering.{int_eq}
-use Rattle.interval_form.specs.Expression.{Expression, eval, IsOver}
+use Rattle.spl_core.specs.Expression.{Expression, eval, IsOver}
 
 -- a comparison of two integers
 pub data Relation : Type 0 where

@@ -2,7 +2,7 @@
 use Rattle.std.specs.Prelude.{ℕ, ◌<◌, List, [], ◌∷◌, slice_set, ℤ}
 use Rattle.oct_def.specs.Matrix.{value_at}
 use Rattle.oct_def.specs.Octagon.{Octagon}
-use Rattle.interval_form.specs.Expression.{Variable}
+use Rattle.spl_core.specs.Expression.{Variable}
 use Rattle.transfer_def.specs.Assign.{assign_value}
 
 -- a copy: the target takes the value of the origin

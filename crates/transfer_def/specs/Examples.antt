@@ -2,7 +2,7 @@
 use Rattle.std.specs.Prelude.{true, ◌≡◌, List, [], ◌∷◌, Some, None, ℤ, pos, neg_ℤ}
 use Rattle.oct_def.specs.Bound.{Bound, low_limit}
 use Rattle.oct_def.specs.Octagon.{Octagon, top_value}
-use Rattle.interval_form.specs.Expression.{Number, Variable, Add}
+use Rattle.spl_core.specs.Expression.{Number, Variable, Add}
 use Rattle.transfer_def.specs.Assign.{assign_value}
 use Rattle.transfer_def.specs.Condition.{AtMost, Below, Different, Random, Not, Or, Compare}
 use Rattle.transfer_def.specs.Test.{test_value}

@@ -4,7 +4,7 @@ use Rattle.oct_def.specs.Bound.{top_limit}
 use Rattle.oct_def.specs.Table.{Matrix, table}
 use Rattle.oct_def.specs.Matrix.{IsMatrix}
 use Rattle.oct_def.specs.Octagon.{Octagon, MeetsOctagon, IsOctagon}
-use Rattle.interval_form.specs.Expression.{Expression, Number, Variable, Neg, Add, Sub, eval, IsOver}
+use Rattle.spl_core.specs.Expression.{Expression, Number, Variable, Neg, Add, Sub, eval, IsOver}
 use Rattle.transfer_def.specs.Assign.{equated, assign_value}
 use Rattle.transfer_def.specs.Forget.{forget_value}
 use Rattle.transfer_def.specs.Copies.{Copy, copied_state, copy_value, AreOver}

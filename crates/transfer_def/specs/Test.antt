@@ -3,7 +3,7 @@ use Rattle.std.specs.Prelude.{ℕ, Bool, true, false, Option, pos}
 use Rattle.oct_def.specs.Table.{Matrix}
 use Rattle.oct_def.specs.Tight.{tight}
 use Rattle.oct_def.specs.Octagon.{Octagon, bottom_value, join_value}
-use Rattle.interval_form.specs.Expression.{Expression}
+use Rattle.spl_core.specs.Expression.{Expression}
 use Rattle.interval_form.specs.Interval.{point, ranges_of}
 use Rattle.interval_form.specs.Form.{Form}
 use Rattle.interval_form.specs.Linear.{constant_form, linear_form, sum_form, difference_form}
