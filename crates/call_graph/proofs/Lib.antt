@@ -1,0 +1,4 @@
+pub mod Lists
+pub mod Reaching
+pub mod Sorting
+pub mod Closing
