@@ -1,0 +1,6 @@
+pub mod Weighing
+pub mod Rows
+pub mod Steps
+pub mod Evening
+pub mod Strong
+pub mod Lowered
