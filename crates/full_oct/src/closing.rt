@@ -2,7 +2,7 @@
 // next, since all its entries are read from the old one.
 ghost use Rattle.std.specs.Prelude.{◌≡◌, ℕ, ◌+◌, ◌*◌, ◌%◌, ◌<◌, IfOk, length};
 ghost use Rattle.oct_def.specs.Bound.{bound_of};
-ghost use Rattle.oct_def.specs.Tight.{pivot_entry, pair_step, closure, has_negative_loop, even_entry, evening, has_crossing, strong_entry, strengthening, tight};
+ghost use Rattle.oct_def.specs.Tight.{pivot_entry, pair_step, closure, has_negative_cycle, even_entry, evening, has_crossing, strong_entry, strengthening, tight};
 
 use crate::matrix::FullMatrix;
 use oct_def::{
@@ -63,8 +63,8 @@ impl FullMatrix {
     }
 
     // Whether some entry of the diagonal is negative.
-    fn has_negative_loop(&self) -> bool
-        ensures { result ≡ has_negative_loop self.now }
+    fn has_negative_cycle(&self) -> bool
+        ensures { result ≡ has_negative_cycle self.now }
     {
         for i in 0..self.size() {
             if is_negative_word(self.word(i, i)) {
@@ -136,7 +136,7 @@ impl FullMatrix {
         ensures tight { IfOk result (λ m. m ≡ tight self.now) }
     {
         let closure = self.stepped_at_all(alloc)?;
-        if closure.has_negative_loop() {
+        if closure.has_negative_cycle() {
             return Ok(None);
         }
         let even = closure.with_even_unary(alloc)?;
