@@ -1,4 +1,3 @@
-pub mod Weighing
 pub mod Rows
 pub mod Steps
 pub mod Evening

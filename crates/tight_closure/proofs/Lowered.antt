@@ -5,16 +5,13 @@ use Rattle.std.specs.Int.{w64}
 use Rattle.std.proofs.lemmas.Int.{ints, clamps, to_z-of_z}
 use Rattle.std.proofs.Math.ListN.{set, length-set}
 use Rattle.std.proofs.lemmas.List.{get_or-set_same, get_or-set_other}
-use Rattle.oct_def.specs.Bound.{Bound, bound_of, none_word, least, plus, clamped, InRange}
+use Rattle.oct_def.specs.Bound.{Bound, bound_of, none_word, least, plus, clamped}
 use Rattle.oct_def.specs.Table.{Matrix, at}
-use Rattle.oct_def.specs.Matrix.{opposite, IsSquare, IsCoherent}
-use Rattle.oct_def.specs.Tight.{pair_entry, pair_step}
-use Rattle.oct_def.proofs.Coherent.{pair_entry-twin}
-use Rattle.oct_def.proofs.WordBounds.{word-in_range}
+use Rattle.oct_def.specs.Matrix.{opposite, IsCoherent}
+use Rattle.oct_def.specs.Tight.{pair_entry}
 use Rattle.half_matrix.specs.Place.{row_length}
 use Rattle.half_matrix.specs.Lending.{with_row, IsRowOf}
 use Rattle.minplus_lanes.specs.Rows.{IsLow, IsLowWeight, far, loose, low_at}
-use Rattle.minplus_lanes.proofs.Rows.{word_fits}
 use Rattle.minplus_lanes.proofs.Low.{low_fits}
 use Rattle.tight_closure.specs.LowRows.{IsSmallWord, IsLowered, IsLowRowOf}
 use Rattle.tight_closure.proofs.Steps.{weighed}

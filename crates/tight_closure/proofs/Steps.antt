@@ -1,5 +1,5 @@
 -- The step at one variable, row by row.
-use Rattle.std.proofs.Common.{◌≡◌, ℕ, ◌+◌, ◌*◌, ◌<◌, ◌≤◌, ◌⊎◌, inl, inr, List, length, get_or, refl, sym, ap, ◌∙◌, subst, arith, FitsSigned, to_z, of_z}
+use Rattle.std.proofs.Common.{◌≡◌, ℕ, ◌+◌, ◌*◌, ◌<◌, ◌≤◌, inl, inr, List, length, get_or, refl, sym, ap, ◌∙◌, subst, arith, to_z, of_z}
 use Rattle.std.specs.Prelude.{ℤ, pos, ◌≤ℤ◌}
 use Rattle.std.specs.Int.{w64}
 use Rattle.std.proofs.lemmas.Int.{ints, clamps}
@@ -7,18 +7,17 @@ use Rattle.oct_def.specs.Bound.{Bound, bound_of, none_word, least, plus, clamped
 use Rattle.oct_def.specs.Table.{Matrix, at}
 use Rattle.oct_def.specs.Matrix.{opposite, IsSquare, IsCoherent}
 use Rattle.oct_def.specs.Tight.{path, long_path, pivot_entry, pair_entry, pair_step, pair_steps}
-use Rattle.oct_def.proofs.Tables.{is-table}
-use Rattle.oct_def.proofs.Indices.{opposite_below, opposite-even, opposite-odd}
+use Rattle.oct_def.proofs.Indices.{opposite-even, opposite-odd}
 use Rattle.oct_def.proofs.Coherent.{twin, pair_entry-twin}
 use Rattle.oct_def.proofs.WordBounds.{word-in_range}
 use Rattle.oct_def.proofs.Values.{shape-pair_steps}
 use Rattle.std.proofs.Common.{add-one}
 use Rattle.tight_closure.proofs.Rows.{RowsDone, row_more, all_rows}
-use Rattle.tight_closure.proofs.Weighing.{by_two_weights}
+use Rattle.oct_def.proofs.Weights.{words_by_two_weights}
 use Rattle.half_matrix.specs.Place.{row_length}
 use Rattle.half_matrix.specs.Lending.{with_row, IsRowOf}
 use Rattle.minplus_lanes.specs.Rows.{AllWords, IsWeight, relaxed_at}
-use Rattle.minplus_lanes.proofs.Rows.{word_fits, again}
+use Rattle.minplus_lanes.proofs.Rows.{again}
 
 -- words of a row
 pub row_words : (m : Matrix) (k : ℕ) (buf : List ℤ) → ((i j : ℕ) → InRange (at m i j)) → IsRowOf m k buf → AllWords buf
@@ -42,7 +41,7 @@ weighed n k i c m a b e co hk hi ea eb =
     let fb : b ≡ least (at m i q) (plus (at m i p) (at m p q)) = eb ∙ ap (λ t. least t (plus (at m q (opposite i)) (at m p q))) iq ∙ ap (λ t. least (at m i q) (plus t (at m p q))) ip in
     ap (λ t. least (at m i c) (least (clamped (plus t (at m p c))) (clamped (plus b (at m q c))))) fa
     ∙ ap (λ t. least (at m i c) (least (clamped (plus (least (at m i p) (plus (at m i q) (at m q p))) (at m p c))) (clamped (plus t (at m q c))))) fb
-    ∙ by_two_weights (at m i c) (at m i p) (at m i q) (at m p q) (at m q p) (at m p c) (at m q c)
+    ∙ sym (words_by_two_weights (at m i c) (at m i p) (at m i q) (at m p q) (at m q p) (at m p c) (at m q c))
 
 -- one row more
 pub stepped_more : (n k i : ℕ) (m now : Matrix) (old w p q : List ℤ) (a b : ℤ) → length m ≡ 2 * n → IsCoherent m → k < n → i < 2 * n

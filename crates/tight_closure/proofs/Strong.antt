@@ -1,23 +1,20 @@
 -- The strengthening, row by row.
-use Rattle.std.proofs.Common.{◌≡◌, ℕ, ◌+◌, ◌*◌, ◌<◌, ◌≤◌, ◌⊎◌, inl, inr, Some, None, List, length, get_or, refl, sym, ap, ◌∙◌, subst, arith, FitsSigned}
+use Rattle.std.proofs.Common.{◌≡◌, ℕ, ◌+◌, ◌*◌, ◌<◌, ◌≤◌, ◌⊎◌, inl, inr, Some, None, List, length, get_or, sym, ap, ◌∙◌, arith}
 use Rattle.std.specs.Prelude.{ℤ, pos}
-use Rattle.std.specs.Int.{w64}
 use Rattle.std.proofs.lemmas.Int.{ints}
 use Rattle.std.proofs.Math.ListN.{set, length-set}
 use Rattle.std.proofs.lemmas.List.{get_or-set_same, get_or-set_other}
 use Rattle.oct_def.specs.Bound.{Bound, bound_of, word_of, least, plus, half, InRange}
-use Rattle.oct_def.specs.Table.{Matrix, at, table}
+use Rattle.oct_def.specs.Table.{Matrix, at}
 use Rattle.oct_def.specs.Matrix.{opposite, IsSquare, IsCoherent}
 use Rattle.oct_def.specs.Tight.{strong_entry, strengthening}
 use Rattle.oct_def.proofs.Bounds.{half_low, half_high}
-use Rattle.oct_def.proofs.Tables.{length-table, at-table, is-table}
-use Rattle.oct_def.proofs.Indices.{opposite_below}
-use Rattle.oct_def.proofs.Coherent.{twin, coherent-strengthening}
-use Rattle.oct_def.proofs.WordBounds.{word-in_range, word_of-bound_of}
+use Rattle.oct_def.proofs.Tables.{length-table, at-table}
+use Rattle.oct_def.proofs.Coherent.{coherent-strengthening}
+use Rattle.oct_def.proofs.WordBounds.{word_of-bound_of}
 use Rattle.half_matrix.specs.Place.{row_length}
 use Rattle.half_matrix.specs.Lending.{with_row}
 use Rattle.minplus_lanes.specs.Rows.{IsHalfWord, AllHalves, strong_at}
-use Rattle.minplus_lanes.proofs.Rows.{word_fits}
 use Rattle.tight_closure.specs.Halves.{IsHalvesOf}
 use Rattle.tight_closure.proofs.Rows.{RowsDone, row_more, all_rows}
 

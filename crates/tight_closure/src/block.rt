@@ -4,7 +4,7 @@ ghost use Rattle.oct_def.specs.Bound.{InRange};
 ghost use Rattle.oct_def.specs.Table.{at};
 ghost use Rattle.oct_def.specs.Tight.{tight};
 
-use crate::ends::{even_unary, has_crossing, has_negative_loop, strengthen};
+use crate::ends::{even_unary, has_crossing, has_negative_cycle, strengthen};
 use crate::pairs::closure;
 use half_matrix::HalfBuf;
 use memory::NoMemory;
@@ -12,14 +12,14 @@ use minplus_lanes::RowCount;
 use std::alloc::Global;
 use std::marker::Model;
 
-/// What a closure comes to: a matrix, or Bottom.
+/// What a closure comes to: a matrix, or Bottom, which no state meets.
 #[derive(Clone, Copy, Debug, PartialEq, Eq)]
 pub enum Outcome {
     Closed,
     Empty,
 }
 
-/// Room for closing blocks of so many variables.
+/// Room for the copies of two rows, to close blocks of at most so many variables.
 #[derive(Drop)]
 pub struct Scratch {
     vars: u32,
@@ -78,7 +78,7 @@ fn close(m: &mut HalfBuf, p: &mut [i64], q: &mut [i64], count: &mut RowCount) ->
     m.shape();
     let _ = m.vars();
     closure(m, p, q, count);
-    if has_negative_loop(m) {
+    if has_negative_cycle(m) {
         return Outcome::Empty;
     }
     m.shape();
@@ -117,7 +117,8 @@ fn close_within(
     )
 }
 
-/// The tight closure of a matrix of words, in place. Where it is Bottom the matrix holds something else afterwards.
+/// The tight closure of a matrix of words, in place. Where it is Bottom, the matrix holds some coherent matrix afterwards.
+/// It takes no memory, and O(k^3) time for k variables: 2k^2 rows are relaxed.
 pub fn close_block(m: &mut HalfBuf, scratch: &mut Scratch, count: &mut RowCount) -> Outcome
     requires room { length m.old ≤ 2 * scratch.old }
     requires in_range { (i j : ℕ) → InRange (at m.old i j) }
@@ -126,7 +127,7 @@ pub fn close_block(m: &mut HalfBuf, scratch: &mut Scratch, count: &mut RowCount)
     ensures rows { length m.new ≡ length m.old }
     ensures in_range { (i j : ℕ) → InRange (at m.new i j) }
     ensures room { scratch.new ≡ scratch.old }
-    ensures count { count.new ≡ min (count.old + length m.old / 2 * length m.old) (2 ^ 64 - 1) }
+    ensures count { (k : ℕ) → length m.old ≡ 2 * k → count.new ≡ min (count.old + 2 * k * k) (2 ^ 64 - 1) }
 {
     close_within(m, &mut scratch.first, &mut scratch.second, count)
 }

@@ -1,17 +1,31 @@
 // Worked closures. The expected words were computed by a reading of the rules that shares nothing with this crate.
 ghost use Rattle.std.specs.Prelude.{◌≡◌, ℕ, length};
-ghost use Rattle.oct_def.specs.Bound.{InRange};
+ghost use Rattle.oct_def.specs.Bound.{InRange, IsWord};
 ghost use Rattle.oct_def.specs.Table.{at};
 
 use crate::{Outcome, Scratch, close_block};
 use half_matrix::{HalfBuf, HalfMatrix};
 use minplus_lanes::RowCount;
-use oct_def::{LIMIT, NONE, clamp};
+use oct_def::{LIMIT, NONE};
+use std::alloc::Global;
 use std::process::Abort;
 use std::test::Fail;
 
 /// A bound on V_j - V_i.
-type Constraint = (u32, u32, i128);
+type Constraint = (u32, u32, i64);
+
+/// The word of a bound moved outward into the limits.
+fn word_within(bound: i64) -> i64
+    ensures { IsWord result }
+{
+    if bound > LIMIT {
+        return NONE;
+    }
+    if bound < -LIMIT {
+        return -LIMIT;
+    }
+    bound
+}
 
 /// The bound, clamped, becomes the entry; outside the matrix nothing changes.
 fn constrain(m: &mut HalfBuf, constraint: Constraint)
@@ -23,7 +37,7 @@ fn constrain(m: &mut HalfBuf, constraint: Constraint)
     let size = 2 * m.vars();
     if i < size {
         if j < size {
-            m.set(i, j, clamp(bound));
+            m.set(i, j, word_within(bound));
         }
     }
 }
@@ -54,13 +68,13 @@ fn expect_words(rt: &impl Abort, m: &HalfBuf, expected: &[i64], what: &str) {
 
 /// Asserts that the closure of top with the constraints has the words; no words stand for Bottom.
 fn expect_closure(
-    rt: &HostRuntime,
+    rt: &impl Abort,
+    alloc: Global,
     vars: u32,
     constraints: &[Constraint],
     expected: &[i64],
     what: &str,
 ) -> Result<(), Fail> {
-    let alloc = rt.alloc();
     assert!(rt; vars <= 4);
     let mut scratch = Scratch::reserve(alloc, 4)?;
     let mut count = RowCount::new();
@@ -83,6 +97,7 @@ fn expect_closure(
 fn two_pairs_of_variables_become_four_related_ones(rt: HostRuntime) -> Result<(), Fail> {
     expect_closure(
         &rt,
+        rt.alloc(),
         4,
         &[
             (0, 1, 0),
@@ -111,9 +126,10 @@ fn two_pairs_of_variables_become_four_related_ones(rt: HostRuntime) -> Result<()
 #[test]
 fn unary_bounds_are_even(rt: HostRuntime) -> Result<(), Fail> {
     let n = NONE;
-    expect_closure(&rt, 1, &[(1, 0, 5), (0, 1, -5)], &[], "2x = 5")?;
+    expect_closure(&rt, rt.alloc(), 1, &[(1, 0, 5), (0, 1, -5)], &[], "2x = 5")?;
     expect_closure(
         &rt,
+        rt.alloc(),
         2,
         &[(0, 2, 0), (2, 0, 0), (1, 2, 5)],
         &[0, n, 0, n, 4, 0, 4, 0, 0, n, 0, n, 4, 0, 4, 0],
@@ -121,6 +137,7 @@ fn unary_bounds_are_even(rt: HostRuntime) -> Result<(), Fail> {
     )?;
     expect_closure(
         &rt,
+        rt.alloc(),
         2,
         &[(0, 2, 0), (2, 0, 0), (1, 2, 5), (0, 3, -5)],
         &[],
@@ -128,6 +145,7 @@ fn unary_bounds_are_even(rt: HostRuntime) -> Result<(), Fail> {
     )?;
     expect_closure(
         &rt,
+        rt.alloc(),
         4,
         &[
             (0, 1, 0),
@@ -165,15 +183,14 @@ fn a_second_closure_may_lower_a_clamped_bound(rt: HostRuntime) -> Result<(), Fai
     let mut count = RowCount::new();
     let mut matrix = HalfMatrix::top(alloc, 3)?;
     let m = matrix.writing(alloc)?;
-    let low = h as i128;
     constrain_all(
         m,
         &[
-            (1, 2, low - 1),
-            (0, 3, 1 - low),
-            (4, 5, 2 * low - 2),
-            (3, 2, -2 * low - 2),
-            (2, 3, 2 * low + 2),
+            (1, 2, h - 1),
+            (0, 3, 1 - h),
+            (4, 5, l - 2),
+            (3, 2, -l - 2),
+            (2, 3, l + 2),
         ],
     );
     assert!(rt; m.vars() <= scratch.vars());
