@@ -37,7 +37,7 @@ pub place_within : (size : ℕ) (words : List ℤ) (i j : ℕ) → IsFull size w
 place_within size words i j f p q = omega (arith, mul-add-lt i size j size p q, f.filled)
 
 -- no place passes 2^63
-pub place_small : (size i j : ℕ) → size ≤ 514 → i < size → j < size → i * size + j < 264196
+pub place_small : (size i j : ℕ) → size ≤ 1024 → i < size → j < size → i * size + j < 1048576
 place_small size i j s p q =
     let a = mul-add-lt i size j size p q in
     let b = mul-le-mul_left size s in
