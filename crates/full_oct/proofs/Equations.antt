@@ -7,7 +7,7 @@ use Rattle.std.proofs.lemmas.Int.{ints, to_z-of_z}
 use Rattle.std.proofs.lemmas.Bool.Decides.{Decides-eqb, Decides-ltb}
 use Rattle.oct_def.specs.Bound.{Bound, clamp, none_word, bound_of, half, least}
 use Rattle.oct_def.specs.Table.{Matrix, table, at}
-use Rattle.oct_def.specs.Tight.{pair_steps, closure, has_negative_loop, even_entry, evening, has_crossing, strong_entry, strengthening, tight_even, tight_closed, tight}
+use Rattle.oct_def.specs.Tight.{pair_steps, closure, has_negative_cycle, even_entry, evening, has_crossing, strong_entry, strengthening, tight_even, tight_closed, tight}
 use Rattle.oct_def.proofs.Tables.{length-table}
 use Rattle.oct_def.proofs.Sound.{length-pair_steps}
 use Rattle.oct_def.specs.Matrix.{opposite}
@@ -111,7 +111,7 @@ unfolding tight tight_closed tight_even strengthening evening closure
 length-tight m r e =
     let c = pair_steps (length m / 2) m in
     let v = table (length c) (even_entry c) in
-    let same = by c v (has_negative_loop c) (has_crossing v) e in
+    let same = by c v (has_negative_cycle c) (has_crossing v) e in
     ap length same ∙ length-table (length v) (strong_entry v) ∙ length-table (length c) (even_entry c) ∙ length-pair_steps (length m / 2) m
   where
     by : (c v : Matrix) (a b : Bool) → Some r ≡ cond a None (cond b None (Some (table (length v) (strong_entry v)))) → r ≡ table (length v) (strong_entry v)

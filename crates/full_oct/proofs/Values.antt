@@ -1,11 +1,12 @@
 -- Values of the plain domain, from the matrices of the code.
 use Rattle.std.proofs.Common.{◌≡◌, ℕ, ◌+◌, ◌*◌, ◌<◌, Option, Some, None, sym, ap, ◌∙◌, subst}
 use Rattle.std.specs.Prelude.{pos, ◌≤ℤ◌}
+use Rattle.std.specs.Option.{option_and_then}
 use Rattle.oct_def.specs.Bound.{top_limit}
 use Rattle.oct_def.specs.Table.{Matrix, table}
 use Rattle.oct_def.specs.Matrix.{IsMatrix, IsEvenMatrix}
 use Rattle.oct_def.specs.Tight.{tight}
-use Rattle.oct_def.specs.Octagon.{Octagon, IsOctagon, IsValueOver, top_value, top_matrix, tight_value, tight_option}
+use Rattle.oct_def.specs.Octagon.{Octagon, IsOctagon, IsValueOver, top_value, top_matrix, tight_value}
 use Rattle.oct_def.proofs.Lattice.{octagon-top}
 use Rattle.oct_def.proofs.Values.{value-tight}
 use Rattle.interval_form.specs.Expression.{Expression, Number, Variable, Add}
@@ -37,14 +38,14 @@ top_is n m v e h = h ∙ ap (λ t. octagon_of n (Some t)) e
 
 pub close_bottom : (d : ℕ) (v : Octagon) → octagon_of d None ≡ v → octagon_of d None ≡ tight_value v
 unfolding tight_value
-close_bottom d v e = ap (λ (t : Octagon). octagon_of t.dims (tight_option t.matrix)) e
+close_bottom d v e = ap (λ (t : Octagon). octagon_of t.dims (option_and_then tight t.matrix)) e
 
 pub close_value : (d : ℕ) (m : Matrix) (r : Option Matrix) → IsEvenMatrix d m → r ≡ tight m → IsValueOver d r
 close_value d m r h e = subst (IsValueOver d) (sym e) (value-tight d m h.matrix)
 
 pub close_is : (d : ℕ) (m : Matrix) (r : Option Matrix) (v w : Octagon) → octagon_of d (Some m) ≡ v → r ≡ tight m → w ≡ octagon_of d r → w ≡ tight_value v
 unfolding tight_value
-close_is d m r v w e t h = h ∙ ap (octagon_of d) t ∙ ap (λ (u : Octagon). octagon_of u.dims (tight_option u.matrix)) e
+close_is d m r v w e t h = h ∙ ap (octagon_of d) t ∙ ap (λ (u : Octagon). octagon_of u.dims (option_and_then tight u.matrix)) e
 
 -- ---- assignments
 

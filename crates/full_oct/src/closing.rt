@@ -3,7 +3,7 @@ ghost use Rattle.std.specs.Prelude.{◌≡◌, ℕ, ◌+◌, ◌*◌, ◌%◌, �
 ghost use Rattle.oct_def.specs.Bound.{bound_of, clamped, plus};
 ghost use Rattle.oct_def.specs.Table.{at};
 ghost use Rattle.full_oct.specs.Words.{RowIs};
-ghost use Rattle.oct_def.specs.Tight.{least_of_five, pair_step, closure, has_negative_loop, even_entry, evening, has_crossing, strong_entry, strengthening, tight};
+ghost use Rattle.oct_def.specs.Tight.{least_of_five, pair_step, closure, has_negative_cycle, even_entry, evening, has_crossing, strong_entry, strengthening, tight};
 
 use crate::matrix::FullMatrix;
 use oct_def::{
@@ -108,8 +108,8 @@ impl FullMatrix {
     }
 
     // Whether some entry of the diagonal is negative.
-    fn has_negative_loop(&self) -> bool
-        ensures { result ≡ has_negative_loop self.now }
+    fn has_negative_cycle(&self) -> bool
+        ensures { result ≡ has_negative_cycle self.now }
     {
         for i in 0..self.size() {
             if is_negative_word(self.word(i, i)) {
@@ -181,7 +181,7 @@ impl FullMatrix {
         ensures tight { IfOk result (λ m. m ≡ tight self.now) }
     {
         let closure = self.stepped_at_all(alloc)?;
-        if closure.has_negative_loop() {
+        if closure.has_negative_cycle() {
             return Ok(None);
         }
         let even = closure.with_even_unary(alloc)?;
