@@ -15,9 +15,10 @@ use Rattle.full_oct.proofs.Places.{place_within, at-matrix_of, rows_of}
 
 -- two places of a matrix are the same only in the same row and column
 pub same_place : (size i j r c : ℕ) → j < size → c < size → i * size + j ≡ r * size + c → (i ≡ r) × (j ≡ c)
-same_place size i j r c p q e =
-    (sym (div-mul-add i size j p) ∙ ap (λ n. n / size) e ∙ div-mul-add r size c q,
-    sym (mod-mul-add i size j p) ∙ ap (λ n. n % size) e ∙ mod-mul-add r size c q)
+same_place size i j r c p q e = (
+  sym (div-mul-add i size j p) ∙ ap (λ n. n / size) e ∙ div-mul-add r size c q,
+  sym (mod-mul-add i size j p) ∙ ap (λ n. n % size) e ∙ mod-mul-add r size c q,
+)
 
 -- whether (r, c) is (i, j)
 both-true : (i j r c : ℕ) → (eqb r i && eqb c j) ≡ true → (r ≡ i) × (c ≡ j)

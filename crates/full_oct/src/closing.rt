@@ -2,10 +2,12 @@
 ghost use Rattle.std.specs.Prelude.{◌≡◌, ℕ, ◌+◌, ◌*◌, ◌%◌, ◌<◌, IfOk, length, pos, slice_index_or};
 ghost use Rattle.oct_def.specs.Bound.{bound_of, clamped, plus};
 ghost use Rattle.oct_def.specs.Table.{at};
+ghost use Rattle.oct_def.specs.Octagon.{tight_value};
 ghost use Rattle.full_oct.specs.Words.{RowIs};
 ghost use Rattle.oct_def.specs.Tight.{least_of_five, pair_step, closure, has_negative_cycle, even_entry, evening, has_crossing, strong_entry, strengthening, tight};
 
 use crate::matrix::FullMatrix;
+use crate::value::{FullValue, shared};
 use oct_def::{
     NoMemory, clamped_sum, clamped_sum_of_three, evened_word, has_negative_sum, is_negative_word,
     least_word, opposite, sum_of_halves,
@@ -190,5 +192,22 @@ impl FullMatrix {
         }
         let strong = even.strengthened(alloc)?;
         Ok(Some(strong))
+    }
+}
+
+impl FullValue {
+    /// The tight closure. For n variables it takes time of order n^3 and the memory of at most three matrices at a time.
+    pub fn closed(&self, alloc: Global) -> Result<FullValue, NoMemory>
+        ensures value { IfOk result (λ v. v ≡ tight_value self.now) }
+        ensures dims { IfOk result (λ v. v.dims ≡ self.now.dims) }
+    {
+        match &self.matrix {
+            None => Ok(FullValue::bottom(self.dims)),
+            Some(m) => {
+                let closed = m.closed(alloc)?;
+                let v = shared(alloc, self.dims, closed)?;
+                Ok(v)
+            }
+        }
     }
 }

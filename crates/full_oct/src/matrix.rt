@@ -1,5 +1,5 @@
 // A full matrix of words: one word for each place, row after row. One builder carries every loop over the places.
-ghost use Rattle.std.specs.Prelude.{◌≡◌, ℕ, ◌+◌, ◌*◌, ◌/◌, ◌%◌, ◌<◌, ◌≤◌, IfOk, length, ℤ, pos, slice_index_or};
+ghost use Rattle.std.specs.Prelude.{◌≡◌, ℕ, ◌+◌, ◌*◌, ◌/◌, ◌%◌, ◌<◌, ◌≤◌, ◌↔◌, true, IfOk, length, ℤ, pos, slice_index_or};
 ghost use Rattle.oct_def.specs.Bound.{bound_of, word_of};
 ghost use Rattle.oct_def.specs.Table.{at};
 ghost use Rattle.oct_def.specs.Matrix.{IsSquare};
@@ -46,6 +46,14 @@ impl FullMatrix {
         ensures bound { bound_of result ≡ at self.now i j }
     {
         self.words[i * self.size + j]
+    }
+
+    /// Whether two matrices of one size are the same.
+    pub fn is_same(&self, other: &FullMatrix) -> bool
+        requires rows { length other.now ≡ length self.now }
+        ensures same { (result ≡ true) ↔ (self.now ≡ other.now) }
+    {
+        self.words == other.words
     }
 
     /// The word at row i and column j becomes the given one.

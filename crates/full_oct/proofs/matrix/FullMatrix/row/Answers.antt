@@ -1,5 +1,5 @@
 use Rattle.std.proofs.Common.{◌≡◌, ◌∷◌, [], ◌++◌, length, length-append, ap, sym, ◌∙◌, arith, rules}
-use Rattle.std.specs.Prelude.{ℤ, FitsSigned}
+use Rattle.std.specs.Prelude.{FitsSigned}
 use Rattle.std.specs.Int.{w64}
 use Rattle.std.proofs.lemmas.Int.{to_z-of_z}
 use Rattle.oct_def.specs.Table.{at}
@@ -17,9 +17,10 @@ loop-j-preserved c =
     let fits : FitsSigned w64 c.word.result = search rules in
     let words = c.loop-j.row.items in
     let pushed : c.push.new.self.items ≡ words ++ c.word.result ∷ [] =
-    c.in_ok-push.ensures.items ∙ ap (λ w. words ++ w ∷ []) (to_z-of_z w64 c.word.result fits) in
-    (omega (arith, ap length pushed, length-append words (c.word.result ∷ []), c.loop-j.invariant.0),
-    row_more c.args.self.now c.args.i words c.push.new.self.items c.word.result c.loop-j.invariant.1 (c.word.ensures.bound ∙ ap (at c.args.self.now c.args.i) (sym c.loop-j.invariant.0)) pushed)
+    c.in_ok-push.ensures.items ∙ ap (λ w. words ++ w ∷ []) (to_z-of_z w64 c.word.result fits) in (
+      omega (arith, ap length pushed, length-append words (c.word.result ∷ []), c.loop-j.invariant.0),
+      row_more c.args.self.now c.args.i words c.push.new.self.items c.word.result c.loop-j.invariant.1 (c.word.ensures.bound ∙ ap (at c.args.self.now c.args.i) (sym c.loop-j.invariant.0)) pushed,
+    )
 
 pub returns : goal.returns
 returns c =

@@ -1,9 +1,8 @@
-use Rattle.std.proofs.Common.{◌≡◌, ◌<◌, ◌+◌, ◌*◌, ap, sym, subst, ◌∙◌, arith, rules, length, get_or}
+use Rattle.std.proofs.Common.{◌≡◌, ◌<◌, ◌+◌, ◌*◌, sym, subst, ◌∙◌, arith, rules, length, get_or}
 use Rattle.std.specs.Prelude.{FitsSigned, pos}
 use Rattle.std.specs.Int.{w64}
 use Rattle.std.proofs.lemmas.Int.{to_z-of_z}
 use Rattle.oct_def.specs.Bound.{bound_of, clamped, plus}
-use Rattle.oct_def.specs.Table.{at}
 use Rattle.oct_def.specs.Tight.{pair_entry, pair_step, least_of_five}
 use Rattle.full_oct.proofs.Rows.{Stepped, stepped-more, stepped-all, pivot_of}
 use Rattle.full_oct.proofs.matrix.FullMatrix.step.Goals as goal
