@@ -9,7 +9,7 @@ use Rattle.spl_core.specs.Parts.{Parts}
 use Rattle.spl_core.specs.Facts.{Each, ExprFits, CondFits}
 use Rattle.spl_core.specs.Expression.{Expression, Number}
 use Rattle.spl_core.specs.Condition.{Condition, Random, Compare}
-use Rattle.spl_core.specs.Graph.{expr_at, expr_over, exprs_after, cond_at, cond_over, conds_after, relation_of}
+use Rattle.spl_core.specs.Graph.{expr_at, expr_over, exprs_after, cond_at, cond_over, conds_after}
 use Rattle.control_points.specs.Nodes.{nodes_of, AreNodes, Grows}
 
 length-exprs : (trees : List Expression) (exprs : List CoreExpr) → length (exprs_after trees exprs) ≡ length trees + length exprs
@@ -39,7 +39,7 @@ cond_same c es fs trees k cond.Random h w = refl
 cond_same c es fs trees k (cond.Not a) h w = refl
 cond_same c es fs trees k (cond.And a b) h w = refl
 cond_same c es fs trees k (cond.Or a b) h w = refl
-cond_same c es fs trees k (cond.Compare r a b) h w = ap (λ x. Compare (relation_of r) x (expr_at es b)) (w a h.0) ∙ ap (λ x. Compare (relation_of r) (expr_at fs a) x) (w b h.1)
+cond_same c es fs trees k (cond.Compare r a b) h w = ap (λ x. Compare r x (expr_at es b)) (w a h.0) ∙ ap (λ x. Compare r (expr_at fs a) x) (w b h.1)
 
 -- each condition fits at some number
 abbrev FitSomewhere : Parts → List CoreCond → Type 0

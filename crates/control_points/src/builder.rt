@@ -7,7 +7,8 @@ ghost use Rattle.spl_core.specs.Parts.{span_dims};
 ghost use Rattle.spl_core.specs.Graph.{move_of};
 ghost use Rattle.control_points.specs.CoreOf.{arc, dimensions_in};
 ghost use Rattle.control_points.specs.Nodes.{IsMade, Grows};
-ghost use Rattle.control_points.specs.Building.{Adds, ActionIsIn, SpanIsIn, SpansStay};
+ghost use Rattle.control_points.specs.Building.{Adds, SpansStay};
+ghost use Rattle.spl_core.specs.GraphFacts.{ActionIsIn, SpanIsIn};
 
 use crate::built::Fail;
 use crate::making::{Source, translate};

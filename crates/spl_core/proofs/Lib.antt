@@ -1,2 +1,4 @@
 pub mod Nodes
 pub mod Worked
+pub mod Graphs
+mod Literals

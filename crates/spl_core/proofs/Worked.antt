@@ -8,7 +8,7 @@ use Rattle.spl_core.specs.declared.parts.CoreExpr.{CoreExpr}
 use Rattle.spl_core.specs.declared.parts.CoreCond.{CoreCond}
 use Rattle.spl_core.specs.Parts.{proc_at, edge_at}
 use Rattle.spl_core.specs.Facts.{ExprFits, CondFits, EdgeFits, ProcFits, IsWritable, IsCall, AreFew, IsCore}
-use Rattle.spl_core.specs.Graph.{graph_of}
+use Rattle.spl_core.specs.Graph.{Copy, pairs_in, graph_of}
 use Rattle.spl_core.specs.Examples.{incremented, squared, CoreExamples}
 
 calls_alone : (i j : ℕ) → i < length incremented.edges → j < length incremented.edges → IsCall (edge_at incremented i).action
@@ -28,9 +28,11 @@ calls_alone (suc (suc (suc (suc (suc i))))) j a b call e = absurd (omega arith)
 one_distinct : (x : ℕ) (i j : ℕ) → i < j → j < 1 → get_or (x ∷ []) i 0 ≢ get_or (x ∷ []) j 0
 one_distinct x i j lt few = absurd (omega arith)
 
-first_pair : (x y : ℕ) (P : ℕ → Type 0) → P x → (k : ℕ) → 2 * k < 2 → P (get_or (x ∷ y ∷ []) (2 * k) 0)
-first_pair x y P h zero lt = h
-first_pair x y P h (suc k) lt = absurd (omega arith)
+one_writable : (p : Proc) (x y : ℕ) → IsWritable p x → All (λ (k : Copy). IsWritable p k.target) (pairs_in (x ∷ y ∷ []))
+one_writable p x y h = All-cons (λ (k : Copy). IsWritable p k.target) (record { target = x; origin = y }) [] h (All-nil (λ (k : Copy). IsWritable p k.target))
+
+none_writable : (p : Proc) → All (λ (k : Copy). IsWritable p k.target) []
+none_writable p = All-nil (λ (k : Copy). IsWritable p k.target)
 
 few : AreFew incremented
 few = record { procs = omega arith; points = omega arith; edges = omega arith; dims = omega arith; exprs = omega arith; conds = omega arith }
@@ -73,7 +75,7 @@ edges zero d lt = record {
   one_owner = refl;
   no_entry = λ e. absurd (omega arith);
   no_exit = λ e. absurd (omega arith);
-  acts = record { pairs_fit = (omega arith, two_below 2 0 3 (omega arith) (omega arith)); even = refl; copies = first_pair 2 0 (IsWritable (proc_at incremented 0)) (omega arith, omega arith) };
+  acts = record { pairs_fit = (omega arith, two_below 2 0 3 (omega arith) (omega arith)); even = refl; copies = one_writable (proc_at incremented 0) 2 0 (omega arith, omega arith) };
 }
 edges (suc zero) d lt = record {
   source = omega arith;
@@ -97,7 +99,7 @@ edges (suc (suc (suc zero))) d lt = record {
   one_owner = refl;
   no_entry = λ e. absurd (omega arith);
   no_exit = λ e. absurd (omega arith);
-  acts = record { pairs_fit = (omega arith, All-nil (λ d. d < 2)); even = refl; copies = λ k few. absurd (omega arith) };
+  acts = record { pairs_fit = (omega arith, All-nil (λ d. d < 2)); even = refl; copies = none_writable (proc_at incremented 1) };
 }
 edges (suc (suc (suc (suc zero)))) d lt = record {
   source = omega arith;
@@ -152,7 +154,7 @@ squared_edges zero d lt = record {
   one_owner = refl;
   no_entry = λ e. absurd (omega arith);
   no_exit = λ e. absurd (omega arith);
-  acts = record { pairs_fit = (omega arith, All-nil (λ d. d < 1)); even = refl; copies = λ k few. absurd (omega arith) };
+  acts = record { pairs_fit = (omega arith, All-nil (λ d. d < 1)); even = refl; copies = none_writable (proc_at squared 0) };
 }
 squared_edges (suc zero) d lt = record {
   source = omega arith;

@@ -1,16 +1,9 @@
 -- Conditions, and how they may come out in a state.
 use Rattle.std.specs.Prelude.{◌≡◌, ℕ, ◌⊎◌, Bool, true, false, not, List, ℤ, int_lt, int_le}
 use Rattle.std.specs.Ordering.{int_eq}
-use Rattle.spl_core.specs.Expression.{Expression, eval, IsOver}
-
--- a comparison of two integers
-pub data Relation : Type 0 where
-  AtMost : Relation
-  Below : Relation
-  AtLeast : Relation
-  Above : Relation
-  Equal : Relation
-  Different : Relation
+use Rattle.spl_core.specs.declared.parts.Cmp.{Cmp}
+use Rattle.spl_core.specs.declared.parts.Cmp.TheVariants as cmp
+use Rattle.spl_core.specs.Expression.{Expression, eval, IsOver, IsLimited}
 
 -- a condition: a constant, a free choice, a negation, both, one of two, a comparison
 pub data Condition : Type 0 where
@@ -19,16 +12,16 @@ pub data Condition : Type 0 where
   Not : (c : Condition) → Condition
   And : (c d : Condition) → Condition
   Or : (c d : Condition) → Condition
-  Compare : (r : Relation) (a b : Expression) → Condition
+  Compare : (r : Cmp) (a b : Expression) → Condition
 
 -- whether a comparison holds of two integers
-abbrev pub compares : Relation → ℤ → ℤ → Bool
-compares AtMost x y = int_le x y
-compares Below x y = int_lt x y
-compares AtLeast x y = int_le y x
-compares Above x y = int_lt y x
-compares Equal x y = int_eq x y
-compares Different x y = not (int_eq x y)
+abbrev pub compares : Cmp → ℤ → ℤ → Bool
+compares cmp.Eq x y = int_eq x y
+compares cmp.Ne x y = not (int_eq x y)
+compares cmp.Lt x y = int_lt x y
+compares cmp.Le x y = int_le x y
+compares cmp.Gt x y = int_lt y x
+compares cmp.Ge x y = int_le y x
 
 -- a condition may come out so in a state
 abbrev pub May : Condition → List ℤ → Bool → Type 0
@@ -49,3 +42,12 @@ IsConditionOver n (Not c) = IsConditionOver n c
 IsConditionOver n (And c d) = IsConditionOver n c × IsConditionOver n d
 IsConditionOver n (Or c d) = IsConditionOver n c × IsConditionOver n d
 IsConditionOver n (Compare r a b) = IsOver n a × IsOver n b
+
+-- no literal of the condition is above the greatest one
+abbrev pub IsConditionLimited : Condition → Type 0
+IsConditionLimited (Constant value) = Unit {0}
+IsConditionLimited Random = Unit {0}
+IsConditionLimited (Not c) = IsConditionLimited c
+IsConditionLimited (And c d) = IsConditionLimited c × IsConditionLimited d
+IsConditionLimited (Or c d) = IsConditionLimited c × IsConditionLimited d
+IsConditionLimited (Compare r a b) = IsLimited a × IsLimited b

@@ -41,7 +41,7 @@ pub record CoreExamples : Type 0 where
   pub stands : graph_of incremented ≡ record {
     procs = record { inputs = 1; outputs = 1; dims = 3; entry = 0; exit = 3 } ∷ record { inputs = 0; outputs = 0; dims = 2; entry = 4; exit = 6 } ∷ [];
     owners = 0 ∷ 0 ∷ 0 ∷ 0 ∷ 1 ∷ 1 ∷ 1 ∷ [];
-    arcs = record { source = 0; target = 1; move = starts (2 ∷ 0 ∷ []) }
+    arcs = record { source = 0; target = 1; move = starts (record { target = 2; origin = 0 } ∷ []) }
         ∷ record { source = 1; target = 2; move = assigns 2 (Add (Variable 2) (Number 1)) }
         ∷ record { source = 2; target = 3; move = assigns 1 (Variable 2) }
         ∷ record { source = 4; target = 5; move = starts [] }

@@ -1,5 +1,6 @@
 -- Expressions over the dimensions of a state, and their values without limit.
-use Rattle.std.specs.Prelude.{ℕ, ◌<◌, List, slice_index_or, ℤ, pos, ◌+ℤ◌, ◌-ℤ◌, ◌*ℤ◌, neg_ℤ}
+use Rattle.std.specs.Prelude.{ℕ, ◌<◌, ◌≤◌, List, slice_index_or, ℤ, pos, ◌+ℤ◌, ◌-ℤ◌, ◌*ℤ◌, neg_ℤ}
+use Rattle.spl_core.specs.Limits.{greatest_literal}
 
 -- an expression: a literal, a dimension, a negation, a sum, a difference, a product
 pub data Expression : Type 0 where
@@ -35,3 +36,12 @@ IsOver n (Neg a) = IsOver n a
 IsOver n (Add a b) = IsOver n a × IsOver n b
 IsOver n (Sub a b) = IsOver n a × IsOver n b
 IsOver n (Mul a b) = IsOver n a × IsOver n b
+
+-- no literal of the expression is above the greatest one
+abbrev pub IsLimited : Expression → Type 0
+IsLimited (Number k) = k ≤ greatest_literal
+IsLimited (Variable v) = Unit {0}
+IsLimited (Neg a) = IsLimited a
+IsLimited (Add a b) = IsLimited a × IsLimited b
+IsLimited (Sub a b) = IsLimited a × IsLimited b
+IsLimited (Mul a b) = IsLimited a × IsLimited b

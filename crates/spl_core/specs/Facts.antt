@@ -1,5 +1,5 @@
 -- What the parts of a core keep.
-use Rattle.std.specs.Prelude.{◌≡◌, ◌≢◌, ℕ, ◌+◌, ◌-◌, ◌*◌, ◌^◌, ◌%◌, ◌<◌, ◌≤◌, List, length, slice_index_or}
+use Rattle.std.specs.Prelude.{◌≡◌, ◌≢◌, ℕ, ◌+◌, ◌-◌, ◌%◌, ◌<◌, ◌≤◌, List, length, slice_index_or}
 use Rattle.std.specs.List.{All}
 use Rattle.spl_core.specs.declared.parts.Span.{Span}
 use Rattle.spl_core.specs.declared.parts.Edge.{Edge}
@@ -10,19 +10,20 @@ use Rattle.spl_core.specs.declared.parts.CoreExpr.{CoreExpr}
 use Rattle.spl_core.specs.declared.parts.CoreExpr.TheVariants.{Number, Variable, Neg, Add, Sub, Mul}
 use Rattle.spl_core.specs.declared.parts.CoreCond.{CoreCond}
 use Rattle.spl_core.specs.declared.parts.CoreCond.TheVariants.{True, False, Random, Not, And, Or, Compare}
+use Rattle.spl_core.specs.Limits.{most_procedures, most_points, most_dimensions, most_items, greatest_literal}
 use Rattle.spl_core.specs.Parts.{Parts, proc_at, edge_at, owner_of, span_dims}
 use Rattle.spl_core.specs.Expression.{IsOver}
 use Rattle.spl_core.specs.Condition.{IsConditionOver}
-use Rattle.spl_core.specs.Graph.{expr_at, exprs_in, cond_at, conds_in}
+use Rattle.spl_core.specs.Graph.{Copy, pairs_in, expr_at, exprs_in, cond_at, conds_in}
 
 -- a fact of each item of a list and its number
 abbrev pub Each : {X : Type 0} → (ℕ → X → Type 0) → List X → Type 0
 Each {X} P xs = (k : ℕ) (d : X) → k < length xs → P k (slice_index_or xs k d)
 
--- ---- expressions and conditions: children come before parents, and no literal is above 2^61
+-- ---- expressions and conditions: children come before parents, and no literal is above the greatest one
 
 abbrev pub ExprFits : ℕ → CoreExpr → Type 0
-ExprFits k (Number n) = n ≤ 2 ^ 61
+ExprFits k (Number n) = n ≤ greatest_literal
 ExprFits k (Variable v) = Unit {0}
 ExprFits k (Neg a) = a < k
 ExprFits k (Add a b) = (a < k) × (b < k)
@@ -66,7 +67,7 @@ pub record CallFits (c : Parts) (p : Proc) (callee : ℕ) (args targets : Span) 
 pub record StartFits (c : Parts) (p : Proc) (pairs : Span) : Type 0 where
   pub pairs_fit : SpanFits c p.dims pairs
   pub even : pairs.count % 2 ≡ 0
-  pub copies : (k : ℕ) → 2 * k < pairs.count → IsWritable p (slice_index_or (span_dims c pairs) (2 * k) 0)
+  pub copies : All (λ (k : Copy). IsWritable p k.target) (pairs_in (span_dims c pairs))
 
 -- what an edge of procedure p does: it names dimensions of that procedure alone, and writes no input
 abbrev pub ActionFits : Parts → Proc → Action → Type 0
@@ -103,20 +104,20 @@ CallsAreAlone c = (i j : ℕ) → i < length c.edges → j < length c.edges → 
 
 pub record ProcFits (c : Parts) (p : ℕ) (q : Proc) : Type 0 where
   pub within : q.inputs + q.outputs ≤ q.dims
-  pub few : q.dims ≤ 128
+  pub few : q.dims ≤ most_dimensions
   pub entry : q.entry < length c.owners
   pub exit : q.exit < length c.owners
   pub owns_entry : owner_of c q.entry ≡ p
   pub owns_exit : owner_of c q.exit ≡ p
 
--- each list has fewer than 2^31 items, and there are at most 257 procedures and 4096 points
+-- the limits on procedures, on points, and on each other list
 pub record AreFew (c : Parts) : Type 0 where
-  pub procs : length c.procs ≤ 257
-  pub points : length c.owners ≤ 4096
-  pub edges : length c.edges < 2 ^ 31
-  pub dims : length c.dims < 2 ^ 31
-  pub exprs : length c.exprs < 2 ^ 31
-  pub conds : length c.conds < 2 ^ 31
+  pub procs : length c.procs ≤ most_procedures
+  pub points : length c.owners ≤ most_points
+  pub edges : length c.edges < most_items
+  pub dims : length c.dims < most_items
+  pub exprs : length c.exprs < most_items
+  pub conds : length c.conds < most_items
 
 -- the parts of a core
 pub record IsCore (c : Parts) : Type 0 where

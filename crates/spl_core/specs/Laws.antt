@@ -1,10 +1,14 @@
--- What each number of a core stands for, by its own node: the case of the node over what its children stand for.
+-- What each number of a core stands for, by its own node: the case of the node over what its children stand for; and the
+-- literals of a core.
 use Rattle.std.specs.Prelude.{◌≡◌, ℕ, ◌<◌, length, slice_index_or}
+use Rattle.std.specs.List.{All}
 use Rattle.spl_core.specs.declared.parts.CoreExpr.{CoreExpr}
 use Rattle.spl_core.specs.declared.parts.CoreCond.{CoreCond}
 use Rattle.spl_core.specs.Parts.{Parts}
+use Rattle.spl_core.specs.Expression.{IsLimited}
+use Rattle.spl_core.specs.Condition.{IsConditionLimited}
 use Rattle.spl_core.specs.Facts.{IsCore}
-use Rattle.spl_core.specs.Graph.{expr_at, expr_over, exprs_in, cond_at, cond_over, conds_in}
+use Rattle.spl_core.specs.Graph.{Move, skips, assigns, havocs, tests, calls, starts, Arc, expr_at, expr_over, exprs_in, cond_at, cond_over, conds_in, graph_of}
 
 -- each number stands for what its node is, and there are no more; the letter `d` is what a list has past its end
 pub record StandsFor (c : Parts) : Type 0 where
@@ -16,3 +20,21 @@ pub record StandsFor (c : Parts) : Type 0 where
 -- in the parts of a core the numbers stand for their nodes
 abbrev pub NumbersStandForNodes : Type 0
 NumbersStandForNodes = (c : Parts) → IsCore c → StandsFor c
+
+-- no literal of an edge is above the greatest one
+abbrev pub MoveIsLimited : Move → Type 0
+MoveIsLimited skips = Unit {0}
+MoveIsLimited (assigns target e) = IsLimited e
+MoveIsLimited (havocs target) = Unit {0}
+MoveIsLimited (tests c wanted) = IsConditionLimited c
+MoveIsLimited (calls callee args targets) = Unit {0}
+MoveIsLimited (starts copies) = Unit {0}
+
+-- what a number stands for has none, and no edge has one
+pub record Limited (c : Parts) : Type 0 where
+  pub expr : (e : ℕ) → IsLimited (expr_at (exprs_in c) e)
+  pub cond : (e : ℕ) → IsConditionLimited (cond_at (conds_in c) e)
+  pub arcs : All (λ (a : Arc). MoveIsLimited a.move) (graph_of c).arcs
+
+abbrev pub LiteralsAreLimited : Type 0
+LiteralsAreLimited = (c : Parts) → IsCore c → Limited c

@@ -1,7 +1,9 @@
+pub mod Limits
 pub mod Parts
 pub mod Expression
 pub mod Condition
 pub mod Graph
 pub mod Facts
+pub mod GraphFacts
 pub mod Laws
 pub mod Examples

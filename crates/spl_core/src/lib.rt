@@ -10,6 +10,6 @@ mod program;
 #[cfg(test)]
 mod tests;
 
-pub use laws::{law_examples, law_numbers};
+pub use laws::{law_examples, law_graph, law_literals, law_numbers};
 pub use parts::{Action, Cmp, CoreCond, CoreExpr, CoreParts, Edge, Proc, Span};
 pub use program::Core;

@@ -6,11 +6,11 @@ use Rattle.std.proofs.lemmas.Int.{ints}
 use Rattle.std.proofs.lemmas.List.{map-append, reverse-append}
 use Rattle.spl_core.specs.declared.parts.Edge.{Edge}
 use Rattle.spl_core.specs.Parts.{Parts}
-use Rattle.spl_core.specs.Graph.{Arc, arc_of, move_of, graph_of}
+use Rattle.spl_core.specs.Graph.{Arc, arc_of, move_of, graph_of, arcs_out}
 use Rattle.spl_runs.specs.declared.frame.Frame.{Frame as Held}
 use Rattle.spl_runs.specs.Runs.{Frame, Stack}
 use Rattle.spl_runs.specs.Choices.{Choice}
-use Rattle.spl_runs.specs.Replay.{edges_out, numbered, Outcome, refused, over, over_some, advanced, if_pop, if_called, if_some_called, return_edge}
+use Rattle.spl_runs.specs.Replay.{numbered, Outcome, refused, over, over_some, advanced, if_pop, if_called, if_some_called, return_edge}
 use Rattle.spl_runs.specs.Stacks.{frame_of, frames_of}
 
 -- the edges out of a point, in a core and in its graph
@@ -28,7 +28,7 @@ get_map f [] n = refl
 get_map f (x ∷ xs) zero = refl
 get_map f (x ∷ xs) (suc n) = get_map f xs n
 
-pub out_at : (c : Parts) (p n : ℕ) → slice_get (edges_out (graph_of c) p) n ≡ option_map (arc_of c) (slice_get (filter (λ e. nat_eq e.source p) c.edges) n)
+pub out_at : (c : Parts) (p n : ℕ) → slice_get (arcs_out (graph_of c) p) n ≡ option_map (arc_of c) (slice_get (filter (λ e. nat_eq e.source p) c.edges) n)
 unfolding graph_of
 out_at c p n = ap (λ xs. slice_get xs n) (out_by c p c.edges) ∙ get_map (arc_of c) (filter (λ e. nat_eq e.source p) c.edges) n
 
@@ -61,7 +61,7 @@ pub numbered_within : (xs : List Edge) (z : ℤ) (n : ℕ) → z ≡ pos n → n
 numbered_within xs z n e = ap (numbered xs) e
 
 -- the edge with a number, in a core and in its graph
-pub numbered_at : (c : Parts) (p : ℕ) (z : ℤ) → numbered (edges_out (graph_of c) p) z ≡ option_map (arc_of c) (numbered (filter (λ e. nat_eq e.source p) c.edges) z)
+pub numbered_at : (c : Parts) (p : ℕ) (z : ℤ) → numbered (arcs_out (graph_of c) p) z ≡ option_map (arc_of c) (numbered (filter (λ e. nat_eq e.source p) c.edges) z)
 numbered_at c p (pos n) = out_at c p n
 numbered_at c p (negsuc n) = refl
 

@@ -7,12 +7,12 @@ use Rattle.std.proofs.lemmas.List.{take-append-drop, get_or-map, length-map, len
 use Rattle.std.proofs.lemmas.List.Sums.{fold-append}
 use Rattle.spl_core.specs.declared.parts.Proc.{Proc}
 use Rattle.spl_core.specs.Parts.{Parts}
-use Rattle.spl_core.specs.Graph.{Move, skips, assigns, havocs, tests, calls, starts, Arc, Graph, graph_of}
+use Rattle.spl_core.specs.Graph.{Move, skips, assigns, havocs, tests, calls, starts, Arc, Graph, graph_of, proc_of, arcs_out}
 use Rattle.spl_runs.specs.declared.choices.Step.{Step}
 use Rattle.spl_runs.specs.declared.frame.Frame.{Frame as Held}
-use Rattle.spl_runs.specs.Runs.{Frame, Stack, frame, proc_of, values_of}
+use Rattle.spl_runs.specs.Runs.{Frame, Stack, frame, values_of}
 use Rattle.spl_runs.specs.Choices.{Choice, Given, choice_of}
-use Rattle.spl_runs.specs.Replay.{Change, now, no_change, past, changed, Outcome, moved, refused, wide, moved_to, entered, over, over_some, numbered, edges_out, return_edge, left, left_over, is_zero, step_by, step_of, Top, top_of, ran, not_a_run, too_wide, after, continued, begun, replayed}
+use Rattle.spl_runs.specs.Replay.{Change, now, no_change, past, changed, Outcome, moved, refused, wide, moved_to, entered, over, over_some, numbered, return_edge, left, left_over, is_zero, step_by, step_of, Top, top_of, ran, not_a_run, too_wide, after, continued, begun, replayed}
 use Rattle.spl_runs.specs.Stacks.{frame_of, frames_of}
 
 -- after k steps
@@ -67,7 +67,7 @@ deep_leave g top [] a = tt
 deep_leave g top (caller ∷ below) a = deep_left g top caller below a.target a.move
 
 deep_by : (g : Graph) (top : Frame) (below : Stack) (ch : Choice) (a : Option Arc) → Deep (suc (length below)) (step_by g top below ch a)
-deep_by g top below ch None = deep_some g top below ch.values (numbered (edges_out g top.point) ch.edge)
+deep_by g top below ch None = deep_some g top below ch.values (numbered (arcs_out g top.point) ch.edge)
 deep_by g top below ch (Some a) = deep_if (suc (length below)) (is_zero ch.edge && nat_eq (length ch.values) 0) (left g top below a) (deep_leave g top below a)
 
 deep_step : (g : Graph) (stack : Stack) (ch : Choice) → Deep (length stack) (step_of g stack ch)

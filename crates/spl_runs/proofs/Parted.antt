@@ -10,12 +10,13 @@ use Rattle.spl_core.specs.Parts.{Parts}
 use Rattle.spl_core.specs.Facts.{ExprFits, CondFits, IsCore}
 use Rattle.spl_core.specs.Laws.{NumbersStandForNodes}
 use Rattle.spl_core.specs.Expression.{Expression, Number, Variable, Neg, Add, Sub, Mul, State, value_of, eval}
-use Rattle.spl_core.specs.Condition.{Relation, Condition, And, Or, Compare, compares}
+use Rattle.spl_core.specs.Condition.{Condition, And, Or, Compare, compares}
 use Rattle.spl_core.specs.Graph.{expr_at, expr_over, exprs_in, cond_at, cond_over, conds_in}
 use Rattle.spl_runs.specs.Word.{fits}
 use Rattle.spl_runs.specs.Replay.{is_wide, is_wide_condition, same_bool, may}
 use Rattle.spl_runs.specs.Exact.{exact, exact_may, within, negated, sum_of, difference_of, product_of, joined, compared}
 use Rattle.spl_runs.proofs.Fitting.{fits_of, unfit}
+use Rattle.spl_core.specs.declared.parts.Cmp.{Cmp}
 
 -- ---- a checked result
 
@@ -110,12 +111,12 @@ pub exact_or : (c d : Condition) (s : State) (wanted : Bool) → joined (not wan
 exact_or c d s true = sym (one_by (is_wide_condition c s) (is_wide_condition d s) (may c s true) (may d s true))
 exact_or c d s false = sym (both_by (is_wide_condition c s) (is_wide_condition d s) (may c s false) (may d s false))
 
-compare_by : (r : Relation) (wanted a b : Bool) (x y : ℤ) → (if a || b then None else Some (same_bool (compares r x y) wanted)) ≡ compared r wanted (if a then None else Some x) (if b then None else Some y)
+compare_by : (r : Cmp) (wanted a b : Bool) (x y : ℤ) → (if a || b then None else Some (same_bool (compares r x y) wanted)) ≡ compared r wanted (if a then None else Some x) (if b then None else Some y)
 compare_by r wanted true b x y = refl
 compare_by r wanted false true x y = refl
 compare_by r wanted false false x y = refl
 
-pub exact_compare : (r : Relation) (a b : Expression) (s : State) (wanted : Bool) → compared r wanted (exact a s) (exact b s) ≡ exact_may (Compare r a b) s wanted
+pub exact_compare : (r : Cmp) (a b : Expression) (s : State) (wanted : Bool) → compared r wanted (exact a s) (exact b s) ≡ exact_may (Compare r a b) s wanted
 exact_compare r a b s wanted = sym (compare_by r wanted (is_wide a s) (is_wide b s) (eval a s) (eval b s))
 
 pub same_true : (wanted : Bool) → Some wanted ≡ Some (same_bool true wanted)

@@ -12,10 +12,10 @@ use Rattle.spl_core.specs.Parts.{Parts, proc_at, edge_at, no_edge, span_dims}
 use Rattle.spl_core.specs.Facts.{IsCore, EdgeFits, ActionFits}
 use Rattle.spl_core.specs.Expression.{State, value_of, eval}
 use Rattle.spl_core.specs.Condition.{Condition, Constant, Random, Not, And, Or, Compare, compares, May}
-use Rattle.spl_core.specs.Graph.{Move, skips, assigns, havocs, tests, calls, starts, Arc, arc_of, move_of, Graph, graph_of}
-use Rattle.spl_runs.specs.Runs.{proc_of, main_of, no_arc, arc_at, Flow, values_of, Frame, Stack, frame, outputs_of, with_values, Step, moves, enters, leaves, Joined, last_of}
+use Rattle.spl_core.specs.Graph.{Move, skips, assigns, havocs, tests, calls, starts, Arc, arc_of, move_of, Graph, graph_of, proc_of, main_of, no_arc, arc_at, arcs_out}
+use Rattle.spl_runs.specs.Runs.{Flow, values_of, Frame, Stack, frame, outputs_of, with_values, Step, moves, enters, leaves, Joined, last_of}
 use Rattle.spl_runs.specs.Choices.{Choice, Given}
-use Rattle.spl_runs.specs.Replay.{is_wide, is_wide_condition, same_bool, may, Change, now, no_change, past, changed, Outcome, moved, refused, wide, moved_to, over, over_some, advanced, numbered, edges_out, if_called, if_some_called, left, left_over, is_zero, step_by, step_of, Top, top_of, ran, not_a_run, after, continued, replayed}
+use Rattle.spl_runs.specs.Replay.{is_wide, is_wide_condition, same_bool, may, Change, now, no_change, past, changed, Outcome, moved, refused, wide, moved_to, over, over_some, advanced, numbered, if_called, if_some_called, left, left_over, is_zero, step_by, step_of, Top, top_of, ran, not_a_run, after, continued, replayed}
 use Rattle.spl_runs.specs.Laws.{Chosen, IsReplay}
 use Rattle.spl_runs.proofs.Spans.{span_length}
 use Rattle.spl_runs.proofs.Following.{stays_no, stays_wide}
@@ -117,10 +117,10 @@ to_arc : (g : Graph) (point : ℕ) (o : Option Arc) → AreFound (λ a. nat_eq a
 to_arc g point None h = tt
 to_arc g point (Some a) h = record { number = h.number; within = h.within; is = h.is; source = eqb-true a.source point h.passes }
 
-out_arc : (g : Graph) (point n : ℕ) → ArcsAre g point (slice_get (edges_out g point) n)
-out_arc g point n = to_arc g point (slice_get (edges_out g point) n) (found (λ a. nat_eq a.source point) g.arcs n)
+out_arc : (g : Graph) (point n : ℕ) → ArcsAre g point (slice_get (arcs_out g point) n)
+out_arc g point n = to_arc g point (slice_get (arcs_out g point) n) (found (λ a. nat_eq a.source point) g.arcs n)
 
-numbered_arc : (g : Graph) (point : ℕ) (z : ℤ) → ArcsAre g point (numbered (edges_out g point) z)
+numbered_arc : (g : Graph) (point : ℕ) (z : ℤ) → ArcsAre g point (numbered (arcs_out g point) z)
 numbered_arc g point (pos n) = out_arc g point n
 numbered_arc g point (negsuc n) = tt
 
@@ -201,7 +201,7 @@ some_sound c top below values None w i = tt
 some_sound c top below values (Some a) w i = over_sound c a a.move top below values w i refl
 
 advanced_sound : (c : Parts) (top : Frame) (below : Stack) (ch : Choice) → IsCore c → Sound (graph_of c) (top ∷ below) (advanced (graph_of c) top below ch)
-advanced_sound c top below ch w = some_sound c top below ch.values (numbered (edges_out (graph_of c) top.point) ch.edge) w (numbered_arc (graph_of c) top.point ch.edge)
+advanced_sound c top below ch w = some_sound c top below ch.values (numbered (arcs_out (graph_of c) top.point) ch.edge) w (numbered_arc (graph_of c) top.point ch.edge)
 
 pop_sound : (g : Graph) (stack : Stack) (t : Bool) (o : Outcome) → Sound g stack o → Sound g stack (if t then o else refused)
 pop_sound g stack true o h = h
@@ -241,7 +241,7 @@ some_called_sound c (Some a) top caller below ch w i = if_called_sound c a a.mov
 step_sound : (c : Parts) (stack : Stack) (ch : Choice) → IsCore c → Sound (graph_of c) stack (step_of (graph_of c) stack ch)
 step_sound c [] ch w = tt
 step_sound c (top ∷ []) ch w = advanced_sound c top [] ch w
-step_sound c (top ∷ caller ∷ below) ch w = some_called_sound c (slice_get (edges_out (graph_of c) caller.point) 0) top caller below ch w (out_arc (graph_of c) caller.point 0)
+step_sound c (top ∷ caller ∷ below) ch w = some_called_sound c (slice_get (arcs_out (graph_of c) caller.point) 0) top caller below ch w (out_arc (graph_of c) caller.point 0)
 
 -- ---- all steps
 

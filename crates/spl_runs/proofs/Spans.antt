@@ -7,6 +7,7 @@ use Rattle.spl_core.specs.declared.parts.Span.{Span}
 use Rattle.spl_core.specs.declared.parts.Edge.{Edge}
 use Rattle.spl_core.specs.Parts.{Parts, span_dims}
 use Rattle.spl_core.specs.Expression.{State, value_of}
+use Rattle.spl_core.specs.Graph.{pairs_in}
 use Rattle.spl_runs.specs.Runs.{copied, values_of, with_values}
 
 -- ---- spans
@@ -47,23 +48,23 @@ outputs_end s xs ys k l = rw (drop_all xs k l) refl
 -- ---- pairs
 
 pub pairs_more : (s t : State) (xs : List ℕ) (k : ℕ) → 2 * k + 1 < length xs → t ≡ slice_set s (get_or xs (2 * k) 0) (value_of s (get_or xs (2 * k + 1) 0))
-    → copied (drop (2 * k) xs) s ≡ copied (drop (2 * suc k) xs) t
+    → copied (pairs_in (drop (2 * k) xs)) s ≡ copied (pairs_in (drop (2 * suc k) xs)) t
 pairs_more s t xs k l e =
     let a : drop (2 * k) xs ≡ get_or xs (2 * k) 0 ∷ drop (suc (2 * k)) xs = drop-cons xs (2 * k) 0 (omega arith) in
     let i : suc (2 * k) ≡ 2 * k + 1 = omega arith in
     let b : drop (suc (2 * k)) xs ≡ get_or xs (suc (2 * k)) 0 ∷ drop (suc (suc (2 * k))) xs = drop-cons xs (suc (2 * k)) 0 (omega arith) in
     let j : suc (suc (2 * k)) ≡ 2 * suc k = omega arith in
-    ap (λ z. copied z s) (a ∙ ap (λ z. get_or xs (2 * k) 0 ∷ z) b)
-    ∙ (ap (λ z. copied (drop (suc (suc (2 * k))) xs) (slice_set s (get_or xs (2 * k) 0) (value_of s (get_or xs z 0)))) i
-    ∙ (ap (λ z. copied (drop z xs) (slice_set s (get_or xs (2 * k) 0) (value_of s (get_or xs (2 * k + 1) 0)))) j
-    ∙ ap (copied (drop (2 * suc k) xs)) (sym e)))
+    ap (λ z. copied (pairs_in z) s) (a ∙ ap (λ z. get_or xs (2 * k) 0 ∷ z) b)
+    ∙ (ap (λ z. copied (pairs_in (drop (suc (suc (2 * k))) xs)) (slice_set s (get_or xs (2 * k) 0) (value_of s (get_or xs z 0)))) i
+    ∙ (ap (λ z. copied (pairs_in (drop z xs)) (slice_set s (get_or xs (2 * k) 0) (value_of s (get_or xs (2 * k + 1) 0)))) j
+    ∙ ap (copied (pairs_in (drop (2 * suc k) xs))) (sym e)))
 
-short : (xs : List ℕ) (s : State) → length xs ≤ 1 → copied xs s ≡ s
+short : (xs : List ℕ) (s : State) → length xs ≤ 1 → copied (pairs_in xs) s ≡ s
 short [] s l = refl
 short (x ∷ []) s l = refl
 short (x ∷ y ∷ xs) s l = absurd (omega arith)
 
-pub pairs_end : (s : State) (xs : List ℕ) (k : ℕ) → length xs ≤ 2 * k + 1 → copied (drop (2 * k) xs) s ≡ s
+pub pairs_end : (s : State) (xs : List ℕ) (k : ℕ) → length xs ≤ 2 * k + 1 → copied (pairs_in (drop (2 * k) xs)) s ≡ s
 pairs_end s xs k l = short (drop (2 * k) xs) s (omega (arith, length-drop (2 * k) xs))
 
 -- ---- edges out of a point

@@ -1,9 +1,10 @@
 -- Values within 128 bits: none where a part is past them.
 use Rattle.std.specs.Prelude.{Bool, true, false, ◌&&◌, ◌||◌, if◌then◌else◌, Option, None, Some, ℤ, ◌+ℤ◌, ◌-ℤ◌, ◌*ℤ◌, neg_ℤ}
 use Rattle.spl_core.specs.Expression.{Expression, State, eval}
-use Rattle.spl_core.specs.Condition.{Relation, Condition, compares}
+use Rattle.spl_core.specs.Condition.{Condition, compares}
 use Rattle.spl_runs.specs.Word.{fits}
 use Rattle.spl_runs.specs.Replay.{is_wide, is_wide_condition, same_bool, may}
+use Rattle.spl_core.specs.declared.parts.Cmp.{Cmp}
 
 -- the value of an expression, if all its parts are within 128 bits
 abbrev pub exact : Expression → State → Option ℤ
@@ -47,7 +48,7 @@ joined all None y = None
 joined all (Some a) None = None
 joined all (Some a) (Some b) = Some (both_or_one all a b)
 
-abbrev pub compared : Relation → Bool → Option ℤ → Option ℤ → Option Bool
+abbrev pub compared : Cmp → Bool → Option ℤ → Option ℤ → Option Bool
 compared r wanted None y = None
 compared r wanted (Some x) None = None
 compared r wanted (Some x) (Some y) = Some (same_bool (compares r x y) wanted)

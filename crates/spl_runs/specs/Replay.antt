@@ -1,10 +1,10 @@
 -- What choices do to a stack: the next stack, or why there is none. The state of a frame has integers without limit.
-use Rattle.std.specs.Prelude.{ℕ, ◌+◌, Bool, true, false, not, ◌&&◌, ◌||◌, nat_eq, if◌then◌else◌, List, [], ◌∷◌, ◌++◌, length, filter, fold, slice_get, slice_set, Option, None, Some, ℤ, pos, negsuc}
+use Rattle.std.specs.Prelude.{ℕ, ◌+◌, Bool, true, false, not, ◌&&◌, ◌||◌, nat_eq, if◌then◌else◌, List, [], ◌∷◌, ◌++◌, length, fold, slice_get, slice_set, Option, None, Some, ℤ, pos, negsuc}
 use Rattle.spl_core.specs.declared.parts.Proc.{Proc}
 use Rattle.spl_core.specs.Expression.{Expression, Number, Variable, Neg, Add, Sub, Mul, State, eval}
 use Rattle.spl_core.specs.Condition.{Condition, Constant, Random, Not, And, Or, Compare, compares}
-use Rattle.spl_core.specs.Graph.{Move, skips, assigns, havocs, tests, calls, starts, Arc, Graph}
-use Rattle.spl_runs.specs.Runs.{proc_of, main_of, copied, values_of, with_values, outputs_of, Frame, frame, Stack}
+use Rattle.spl_core.specs.Graph.{Move, skips, assigns, havocs, tests, calls, starts, Arc, Graph, proc_of, main_of, arcs_out}
+use Rattle.spl_runs.specs.Runs.{copied, values_of, with_values, outputs_of, Frame, frame, Stack}
 use Rattle.spl_runs.specs.Choices.{Choice, Given}
 use Rattle.spl_runs.specs.Word.{fits}
 
@@ -74,7 +74,7 @@ changed (assigns x e) s values = no_values values (assigned e x s)
 changed (havocs x) s values = one_value values s x
 changed (tests c wanted) s values = no_values values (tested c wanted s)
 changed (calls callee args targets) s values = no_change
-changed (starts pairs) s values = no_values values (now (copied pairs s))
+changed (starts copies) s values = no_values values (now (copied copies s))
 
 -- ---- one step
 
@@ -102,11 +102,7 @@ over g target skips top below values = moved_to target below (changed skips top.
 over g target (assigns x e) top below values = moved_to target below (changed (assigns x e) top.state values)
 over g target (havocs x) top below values = moved_to target below (changed (havocs x) top.state values)
 over g target (tests c wanted) top below values = moved_to target below (changed (tests c wanted) top.state values)
-over g target (starts pairs) top below values = moved_to target below (changed (starts pairs) top.state values)
-
--- the edges out of a point, in the order of edges
-abbrev pub edges_out : Graph → ℕ → List Arc
-edges_out g point = filter (λ a. nat_eq a.source point) g.arcs
+over g target (starts copies) top below values = moved_to target below (changed (starts copies) top.state values)
 
 abbrev pub numbered : {X : Type 0} → List X → ℤ → Option X
 numbered xs (pos n) = slice_get xs n
@@ -118,7 +114,7 @@ over_some g top below values (Some a) = over g a.target a.move top below values
 
 -- over the edge with the given number among the edges out of the top frame's point
 abbrev pub advanced : Graph → Frame → Stack → Choice → Outcome
-advanced g top below choice = over_some g top below choice.values (numbered (edges_out g top.point) choice.edge)
+advanced g top below choice = over_some g top below choice.values (numbered (arcs_out g top.point) choice.edge)
 
 -- the call edge out of a caller's point, if the procedure that it calls has its exit at the top frame's point
 abbrev pub if_called : Graph → ℕ → Arc → Move → Option Arc
@@ -127,7 +123,7 @@ if_called g point a skips = None
 if_called g point a (assigns x e) = None
 if_called g point a (havocs x) = None
 if_called g point a (tests c wanted) = None
-if_called g point a (starts pairs) = None
+if_called g point a (starts copies) = None
 
 abbrev pub if_some_called : Graph → ℕ → Option Arc → Option Arc
 if_some_called g point None = None
@@ -135,7 +131,7 @@ if_some_called g point (Some a) = if_called g point a a.move
 
 abbrev pub return_edge : Graph → Frame → Stack → Option Arc
 return_edge g top [] = None
-return_edge g top (caller ∷ below) = if_some_called g top.point (slice_get (edges_out g caller.point) 0)
+return_edge g top (caller ∷ below) = if_some_called g top.point (slice_get (arcs_out g caller.point) 0)
 
 -- the frame below moves over its call edge: the targets take the outputs
 abbrev pub left_over : Graph → Frame → Frame → Stack → ℕ → Move → Outcome
@@ -144,7 +140,7 @@ left_over g top caller below target skips = refused
 left_over g top caller below target (assigns x e) = refused
 left_over g top caller below target (havocs x) = refused
 left_over g top caller below target (tests c wanted) = refused
-left_over g top caller below target (starts pairs) = refused
+left_over g top caller below target (starts copies) = refused
 
 abbrev pub left : Graph → Frame → Stack → Arc → Outcome
 left g top [] a = refused

@@ -1,32 +1,16 @@
 -- Runs of a core over integers without limit.
-use Rattle.std.specs.Prelude.{◌≡◌, ℕ, ◌-◌, ◌<◌, List, [], ◌∷◌, length, map, take, drop, slice_index_or, slice_set, ℤ}
+use Rattle.std.specs.Prelude.{◌≡◌, ℕ, ◌<◌, List, [], ◌∷◌, length, map, take, drop, slice_set, ℤ}
 use Rattle.spl_core.specs.declared.parts.Proc.{Proc}
-use Rattle.spl_core.specs.Parts.{no_proc}
 use Rattle.spl_core.specs.Expression.{State, value_of, eval}
 use Rattle.spl_core.specs.Condition.{May}
-use Rattle.spl_core.specs.Graph.{Move, skips, assigns, havocs, tests, calls, starts, Arc, Graph}
-
--- ---- the parts of a graph by their numbers
-
-abbrev pub proc_of : Graph → ℕ → Proc
-proc_of g p = slice_index_or g.procs p no_proc
-
-abbrev pub no_arc : Arc
-no_arc = record { source = 0; target = 0; move = skips }
-
-abbrev pub arc_at : Graph → ℕ → Arc
-arc_at g e = slice_index_or g.arcs e no_arc
-
-abbrev pub main_of : Graph → ℕ
-main_of g = length g.procs - 1
+use Rattle.spl_core.specs.Graph.{Copy, Move, skips, assigns, havocs, tests, calls, starts, Graph, proc_of, arc_at, main_of}
 
 -- ---- what a move does to a state
 
--- each first dimension of the pairs takes the value of its second one, in order
-abbrev pub copied : List ℕ → State → State
+-- each copy in order
+abbrev pub copied : List Copy → State → State
 copied [] s = s
-copied (x ∷ []) s = s
-copied (x ∷ y ∷ pairs) s = copied pairs (slice_set s x (value_of s y))
+copied (copy ∷ copies) s = copied copies (slice_set s copy.target (value_of s copy.origin))
 
 -- a call has no step of its own within a frame
 abbrev pub Flow : Move → State → State → Type 0
@@ -35,7 +19,7 @@ Flow (assigns x e) s t = t ≡ slice_set s x (eval e s)
 Flow (havocs x) s t = (y : ℤ) × (t ≡ slice_set s x y)
 Flow (tests c wanted) s t = May c s wanted × (t ≡ s)
 Flow (calls callee args targets) s t = ⊥
-Flow (starts pairs) s t = t ≡ copied pairs s
+Flow (starts copies) s t = t ≡ copied copies s
 
 -- the values of some dimensions, and a state in which some dimensions take these
 abbrev pub values_of : State → List ℕ → List ℤ

@@ -2,7 +2,7 @@
 
 ghost use Rattle.std.specs.Prelude.{◌≡◌, ◌<◌, ◌≤◌, ◌+◌, length, IfOk, IfSome, map, slice_get, slice_set, slice_index_or, filter, nat_eq, true};
 ghost use Rattle.spl_core.specs.Parts.{span_dims};
-ghost use Rattle.spl_core.specs.Graph.{move_of, expr_at, exprs_in, cond_at, conds_in};
+ghost use Rattle.spl_core.specs.Graph.{pairs_in, move_of, expr_at, exprs_in, cond_at, conds_in};
 ghost use Rattle.spl_runs.specs.Replay.{numbered, changed, one_value, assigned, tested};
 ghost use Rattle.spl_runs.specs.Stacks.{Changes, TakesNone};
 ghost use Rattle.spl_core.specs.Expression.{value_of};
@@ -73,15 +73,15 @@ pub(crate) fn set(values: &mut [i128], v: u32, x: i128)
     }
 }
 
-/// Each first dimension of the pairs takes the value of its second one, in order.
+/// Each target of the pairs (target, origin) takes the value of its origin, in order.
 pub(crate) fn copy_pairs(core: &Core, pairs: Span, values: &mut [i128])
     requires { pairs.first + pairs.count ≤ length core.now.dims }
-    ensures { values.new ≡ copied (span_dims core.now pairs) values.old }
+    ensures { values.new ≡ copied (pairs_in (span_dims core.now pairs)) values.old }
 {
     for k in 0..pairs.count / 2 {
         let target = core.span_item(pairs, 2 * k);
-        let source = core.span_item(pairs, 2 * k + 1);
-        let x = dimension(values, source);
+        let origin = core.span_item(pairs, 2 * k + 1);
+        let x = dimension(values, origin);
         set(values, target, x);
     }
 }

@@ -3,7 +3,7 @@
 ghost use Rattle.std.specs.Prelude.{◌≡◌, ◌<◌, length, true};
 ghost use Rattle.spl_core.specs.Expression.{value_of};
 ghost use Rattle.spl_core.specs.Condition.{compares};
-ghost use Rattle.spl_core.specs.Graph.{expr_at, exprs_in, cond_at, conds_in, relation_of};
+ghost use Rattle.spl_core.specs.Graph.{expr_at, exprs_in, cond_at, conds_in};
 ghost use Rattle.spl_runs.specs.Word.{fits};
 ghost use Rattle.spl_runs.specs.Exact.{exact, exact_may, negated, sum_of, difference_of, product_of, joined, compared};
 
@@ -81,7 +81,7 @@ fn both_or_one(all: bool, x: Option<bool>, y: Option<bool>) -> Option<bool>
 }
 
 fn holds(cmp: Cmp, x: i128, y: i128) -> bool
-    ensures { result ≡ compares (relation_of cmp) x y }
+    ensures { result ≡ compares cmp x y }
 {
     match cmp {
         Cmp::Eq => x == y,
@@ -95,7 +95,7 @@ fn holds(cmp: Cmp, x: i128, y: i128) -> bool
 
 /// Whether a comparison comes out as wanted.
 fn comparison(cmp: Cmp, wanted: bool, x: Option<i128>, y: Option<i128>) -> Option<bool>
-    ensures { result ≡ compared (relation_of cmp) wanted x y }
+    ensures { result ≡ compared cmp wanted x y }
 {
     match (x, y) {
         (Some(x), Some(y)) => Some(holds(cmp, x, y) == wanted),

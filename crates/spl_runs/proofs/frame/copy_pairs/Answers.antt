@@ -4,6 +4,7 @@ use Rattle.std.specs.Int.{w128}
 use Rattle.std.proofs.lemmas.Int.{to_z-of_z}
 use Rattle.spl_core.specs.Parts.{span_dims}
 use Rattle.spl_core.specs.Expression.{value_of}
+use Rattle.spl_core.specs.Graph.{pairs_in}
 use Rattle.spl_runs.specs.Runs.{copied}
 use Rattle.spl_runs.proofs.Spans.{span_at, span_length, pairs_more, pairs_end}
 use Rattle.spl_runs.proofs.frame.copy_pairs.Goals as goal
@@ -15,14 +16,14 @@ loop-k-preserved c =
     let l : length (span_dims c.args.core.now c.args.pairs) ≡ c.args.pairs.count = span_length c.args.core.now c.args.pairs c.requires in
     let a : c.span_item-target.result ≡ get_or (span_dims c.args.core.now c.args.pairs) (2 * k) 0 =
     c.span_item-target.ensures.found ∙ sym (span_at c.args.core.now c.args.pairs (2 * k) (omega arith)) in
-    let b : c.span_item-source.result ≡ get_or (span_dims c.args.core.now c.args.pairs) (2 * k + 1) 0 =
-    c.span_item-source.ensures.found ∙ sym (span_at c.args.core.now c.args.pairs (2 * k + 1) (omega arith)) in
+    let b : c.span_item-origin.result ≡ get_or (span_dims c.args.core.now c.args.pairs) (2 * k + 1) 0 =
+    c.span_item-origin.ensures.found ∙ sym (span_at c.args.core.now c.args.pairs (2 * k + 1) (omega arith)) in
     let x : to_z w128 (of_z w128 c.dimension-x.result) ≡ value_of c.loop-k.values (get_or (span_dims c.args.core.now c.args.pairs) (2 * k + 1) 0) =
     to_z-of_z w128 c.dimension-x.result f ∙ (c.dimension-x.ensures.value ∙ ap (value_of c.loop-k.values) b) in
     let e : c.set.new.values ≡ slice_set c.loop-k.values (get_or (span_dims c.args.core.now c.args.pairs) (2 * k) 0) (value_of c.loop-k.values (get_or (span_dims c.args.core.now c.args.pairs) (2 * k + 1) 0)) =
     c.set.ensures ∙ (ap (λ v. slice_set c.loop-k.values v (to_z w128 (of_z w128 c.dimension-x.result))) a ∙ ap (slice_set c.loop-k.values (get_or (span_dims c.args.core.now c.args.pairs) (2 * k) 0)) x) in
     let i : suc k ≡ k + 1 = omega arith in
-    c.loop-k.invariant ∙ (pairs_more c.loop-k.values c.set.new.values (span_dims c.args.core.now c.args.pairs) k (omega arith) e ∙ ap (λ n. copied (drop (2 * n) (span_dims c.args.core.now c.args.pairs)) c.set.new.values) i)
+    c.loop-k.invariant ∙ (pairs_more c.loop-k.values c.set.new.values (span_dims c.args.core.now c.args.pairs) k (omega arith) e ∙ ap (λ n. copied (pairs_in (drop (2 * n) (span_dims c.args.core.now c.args.pairs))) c.set.new.values) i)
 
 pub returns : goal.returns
 returns c =
