@@ -89,8 +89,8 @@ impl FullMatrix {
         Ok(())
     }
 
-    // A matrix with the same words.
-    fn copied(&self, alloc: Global) -> Result<FullMatrix, NoMemory>
+    /// A matrix with the same words.
+    pub fn copied(&self, alloc: Global) -> Result<FullMatrix, NoMemory>
         ensures same { IfOk result (λ m. m ≡ self.now) }
     {
         let size = self.size();
