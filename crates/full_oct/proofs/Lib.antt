@@ -1,5 +1,6 @@
 pub mod Places
 pub mod Rows
+pub mod Targets
 pub mod Entries
 pub mod Equations
 pub mod Values

@@ -3,6 +3,7 @@
 
 mod assignment;
 mod closing;
+mod dimensions;
 mod domain;
 mod equation;
 mod lattice;
