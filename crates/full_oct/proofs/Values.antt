@@ -1,7 +1,7 @@
 -- Values of the plain domain, from the matrices of the code.
-use Rattle.std.proofs.Common.{◌≡◌, ℕ, ◌+◌, ◌*◌, ◌<◌, Option, Some, None, length, sym, ap, ◌∙◌, subst}
+use Rattle.std.proofs.Common.{◌≡◌, ℕ, [], ◌∷◌, ◌+◌, ◌*◌, ◌<◌, Option, Some, None, length, sym, ap, ◌∙◌, subst}
 use Rattle.std.specs.Prelude.{pos, ◌≤ℤ◌}
-use Rattle.std.specs.Option.{option_and_then}
+use Rattle.std.specs.Option.{option_map, option_and_then}
 use Rattle.oct_def.specs.Bound.{top_limit}
 use Rattle.oct_def.specs.Table.{Matrix, table}
 use Rattle.oct_def.specs.Matrix.{IsMatrix, IsEvenMatrix}
@@ -9,8 +9,9 @@ use Rattle.oct_def.specs.Tight.{tight}
 use Rattle.oct_def.specs.Octagon.{Octagon, IsOctagon, IsValueOver, bottom_value, top_value, top_matrix, tight_value, on_either, on_both, join_matrix, join_value, widen_matrix, widen_value, narrow_matrix, narrow_value}
 use Rattle.oct_def.proofs.Lattice.{octagon-top, octagon-join, octagon-widen, octagon-narrow}
 use Rattle.oct_def.proofs.Values.{value-tight}
-use Rattle.interval_form.specs.Expression.{Expression, Number, Variable, Add}
-use Rattle.transfer_def.specs.Assign.{then_do, equated, renamed_option, assigned, assign_value}
+use Rattle.spl_core.specs.Expression.{Expression, Number, Variable, Add}
+use Rattle.transfer_def.specs.Dimensions.{moved}
+use Rattle.transfer_def.specs.Assign.{equated, assigned, assign_value}
 use Rattle.transfer_def.specs.Special.{constant_entry, offset_entry}
 use Rattle.transfer_def.proofs.Expressions.{equated-number, equated-variable, equated-plus}
 use Rattle.transfer_def.proofs.Values.{value-assigned}
@@ -103,25 +104,25 @@ narrow_even d e m n r a b ea eb h hm hn er =
 
 pub assign_bottom : (x d : ℕ) (e : Expression) (v : Octagon) → octagon_of d None ≡ v → octagon_of d None ≡ assign_value x e v
 unfolding assign_value
-assign_bottom x d e v h = ap (λ (t : Octagon). octagon_of t.dims (then_do t.matrix (assigned t.dims x e))) h
+assign_bottom x d e v h = ap (λ (t : Octagon). octagon_of t.dims (option_and_then (assigned t.dims x e) t.matrix)) h
 
 pub assign_kept : (x d : ℕ) (e : Expression) (m : Matrix) (r : Option Matrix) → IsEvenMatrix d m → r ≡ assigned d x e m → IsValueOver d r
 assign_kept x d e m r h a = subst (IsValueOver d) (sym a) (value-assigned d x e m h)
 
 pub assign_is : (x d : ℕ) (e : Expression) (m : Matrix) (r : Option Matrix) (v w : Octagon) → octagon_of d (Some m) ≡ v → r ≡ assigned d x e m → w ≡ octagon_of d r → w ≡ assign_value x e v
 unfolding assign_value
-assign_is x d e m r v w h a k = k ∙ ap (octagon_of d) a ∙ ap (λ (t : Octagon). octagon_of t.dims (then_do t.matrix (assigned t.dims x e))) h
+assign_is x d e m r v w h a k = k ∙ ap (octagon_of d) a ∙ ap (λ (t : Octagon). octagon_of t.dims (option_and_then (assigned t.dims x e) t.matrix)) h
 
 -- an assignment closes the equated matrix
-assigned_by : (n x : ℕ) (e : Expression) (m q : Matrix) (r : Option Matrix) → equated n e m ≡ Some q → r ≡ renamed_option n x (tight q) → r ≡ assigned n x e m
+assigned_by : (n x : ℕ) (e : Expression) (m q : Matrix) (r : Option Matrix) → equated n e m ≡ Some q → r ≡ option_map (moved n (x ∷ [])) (tight q) → r ≡ assigned n x e m
 unfolding assigned
-assigned_by n x e m q r h k = k ∙ sym (ap (λ t. renamed_option n x (then_do t tight)) h)
+assigned_by n x e m q r h k = k ∙ sym (ap (λ t. option_map (moved n (x ∷ [])) (option_and_then tight t)) h)
 
-pub number_assigned : (n x c : ℕ) (m q : Matrix) (r : Option Matrix) → pos c ≤ℤ top_limit → q ≡ table (2 * (n + 1)) (constant_entry n (pos c) m) → r ≡ renamed_option n x (tight q) → r ≡ assigned n x (Number c) m
+pub number_assigned : (n x c : ℕ) (m q : Matrix) (r : Option Matrix) → pos c ≤ℤ top_limit → q ≡ table (2 * (n + 1)) (constant_entry n (pos c) m) → r ≡ option_map (moved n (x ∷ [])) (tight q) → r ≡ assigned n x (Number c) m
 number_assigned n x c m q r l e k = assigned_by n x (Number c) m q r (equated-number n c m l ∙ ap Some (sym e)) k
 
-pub copy_assigned : (n x y : ℕ) (m q : Matrix) (r : Option Matrix) → y < n → IsMatrix n m → q ≡ table (2 * (n + 1)) (offset_entry n y (pos 0) m) → r ≡ renamed_option n x (tight q) → r ≡ assigned n x (Variable y) m
+pub copy_assigned : (n x y : ℕ) (m q : Matrix) (r : Option Matrix) → y < n → IsMatrix n m → q ≡ table (2 * (n + 1)) (offset_entry n y (pos 0) m) → r ≡ option_map (moved n (x ∷ [])) (tight q) → r ≡ assigned n x (Variable y) m
 copy_assigned n x y m q r l v e k = assigned_by n x (Variable y) m q r (equated-variable n y m l v ∙ ap Some (sym e)) k
 
-pub sum_assigned : (n x y c : ℕ) (m q : Matrix) (r : Option Matrix) → y < n → pos c ≤ℤ top_limit → IsMatrix n m → q ≡ table (2 * (n + 1)) (offset_entry n y (pos c) m) → r ≡ renamed_option n x (tight q) → r ≡ assigned n x (Add (Variable y) (Number c)) m
+pub sum_assigned : (n x y c : ℕ) (m q : Matrix) (r : Option Matrix) → y < n → pos c ≤ℤ top_limit → IsMatrix n m → q ≡ table (2 * (n + 1)) (offset_entry n y (pos c) m) → r ≡ option_map (moved n (x ∷ [])) (tight q) → r ≡ assigned n x (Add (Variable y) (Number c)) m
 sum_assigned n x y c m q r l t v e k = assigned_by n x (Add (Variable y) (Number c)) m q r (equated-plus n y c m l t v ∙ ap Some (sym e)) k

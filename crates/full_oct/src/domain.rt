@@ -3,7 +3,7 @@ ghost use Rattle.std.specs.Prelude.{◌≡◌, ℕ, ◌+◌, ◌*◌, ◌^◌, �
 ghost use Rattle.oct_def.specs.Bound.{bound_of, word_of};
 ghost use Rattle.oct_def.specs.Table.{at};
 ghost use Rattle.oct_def.specs.Octagon.{IsOctagon, top_value, tight_value};
-ghost use Rattle.interval_form.specs.Expression.{Number, Variable, Add};
+ghost use Rattle.spl_core.specs.Expression.{Number, Variable, Add};
 ghost use Rattle.transfer_def.specs.Assign.{assign_value};
 
 use crate::value::{FullValue, shared};
