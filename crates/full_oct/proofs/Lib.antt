@@ -1,6 +1,7 @@
 pub mod Places
 pub mod Rows
 pub mod Targets
+pub mod Bringing
 pub mod Entries
 pub mod Equations
 pub mod Values

@@ -1,6 +1,10 @@
 -- Variables in the places of others, from the lists of the code.
 use Rattle.std.proofs.Common.{◌≡◌, ◌≢◌, ◌⊎◌, inl, inr, ℕ, zero, suc, ◌+◌, ◌*◌, ◌/◌, ◌%◌, ◌<◌, Bool, true, false, cond, List, [], ◌∷◌, length, get_or, refl, sym, ap, ◌∙◌, arith, nat_eq, eq-eqb, ne_eqb}
+use Rattle.std.specs.List.{All}
+use Rattle.std.proofs.lemmas.List.{get_or_default}
 use Rattle.transfer_def.specs.Dimensions.{moved_variable, moved_dimension}
+use Rattle.transfer_def.proofs.Dimensions.{moved_dimension-below}
+use Rattle.full_oct.specs.Places.{AreMoved}
 
 -- the place of the first target that is v, and v where none is
 pub moved-found : (first : ℕ) (targets : List ℕ) (v k : ℕ) → k < length targets → ((i : ℕ) → i < k → get_or targets i 0 ≢ v) → get_or targets k 0 ≡ v → moved_variable first targets v ≡ first + k
@@ -35,6 +39,9 @@ none_is-more targets k v h d i p = by (cases i p)
     by (inl e) = λ q. d (ap (λ n. get_or targets n 0) (sym e) ∙ q)
     by (inr l) = h i l
 
-pub moved_dimension-of : (n : ℕ) (targets : List ℕ) (i variable : ℕ) → variable ≡ moved_variable n targets (i / 2) → 2 * variable + i % 2 ≡ moved_dimension n targets i
-unfolding moved_dimension
-moved_dimension-of n targets i variable e = ap (λ v. 2 * v + i % 2) e
+-- each place is one of the matrix's
+pub moved-inside : (n size : ℕ) (targets places : List ℕ) → AreMoved n targets places → size ≡ 2 * (n + length targets) → All (λ p. p < size) places
+moved-inside n size targets places h e k d lt =
+    let below = moved_dimension-below n targets k (omega (arith, h.size)) in
+    let same : get_or places k d ≡ moved_dimension n targets k = get_or_default places k d 0 lt ∙ h.each k (omega (arith, h.size)) in
+    omega (arith, below, same, e)

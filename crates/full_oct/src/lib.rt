@@ -2,6 +2,7 @@
 #![tactic(auto)]
 
 mod assignment;
+mod calls;
 mod closing;
 mod dimensions;
 mod domain;
