@@ -5,7 +5,7 @@ use Rattle.std.proofs.lemmas.Bool.Decides.{Decides-eqb}
 use Rattle.oct_def.specs.Bound.{bound_of, plus, evened, is_negative}
 use Rattle.oct_def.specs.Table.{Matrix, at}
 use Rattle.oct_def.specs.Matrix.{opposite}
-use Rattle.oct_def.specs.Tight.{closure, has_negative_loop, even_entry, evening, crossing, has_crossing, strengthening, tight_even, tight_closed, tight}
+use Rattle.oct_def.specs.Tight.{closure, has_negative_cycle, even_entry, evening, crossing, has_crossing, strengthening, tight_even, tight_closed, tight}
 
 pub even_entry-unary : (m : Matrix) (i j : ℕ) → j ≡ opposite i → even_entry m i j ≡ evened (at m i j)
 unfolding even_entry
@@ -27,18 +27,18 @@ crossing_of m i p q a b t ep eq ea eb h =
 
 -- ---- the end of the tight closure
 
-pub tight-loop : (m c : Matrix) → c ≡ closure m → true ≡ has_negative_loop c → None ≡ tight m
+pub tight-loop : (m c : Matrix) → c ≡ closure m → true ≡ has_negative_cycle c → None ≡ tight m
 unfolding tight tight_closed
 tight-loop m c e h =
     ap (λ (b : Bool). cond b None (tight_even (evening c))) h ∙ ap tight_closed e
 
-pub tight-crossing : (m c v : Matrix) → c ≡ closure m → false ≡ has_negative_loop c → v ≡ evening c → true ≡ has_crossing v → None ≡ tight m
+pub tight-crossing : (m c v : Matrix) → c ≡ closure m → false ≡ has_negative_cycle c → v ≡ evening c → true ≡ has_crossing v → None ≡ tight m
 unfolding tight tight_closed tight_even
 tight-crossing m c v e h f k =
     ap (λ (b : Bool). cond b None (Some (strengthening v))) k ∙ ap tight_even f
     ∙ ap (λ (b : Bool). cond b None (tight_even (evening c))) h ∙ ap tight_closed e
 
-pub tight-strong : (m c v s : Matrix) → c ≡ closure m → false ≡ has_negative_loop c → v ≡ evening c → false ≡ has_crossing v → s ≡ strengthening v → Some s ≡ tight m
+pub tight-strong : (m c v s : Matrix) → c ≡ closure m → false ≡ has_negative_cycle c → v ≡ evening c → false ≡ has_crossing v → s ≡ strengthening v → Some s ≡ tight m
 unfolding tight tight_closed tight_even
 tight-strong m c v s e h f k g =
     ap Some g ∙ ap (λ (b : Bool). cond b None (Some (strengthening v))) k ∙ ap tight_even f

@@ -2,7 +2,7 @@
 // variable that equals the expression, which then takes the place of the target.
 ghost use Rattle.std.specs.Prelude.{◌≡◌, ℕ, ◌*◌, ◌^◌, ◌<◌, ◌≤◌, IfOk, ℤ, pos};
 ghost use Rattle.oct_def.specs.Matrix.{IsMatrix};
-ghost use Rattle.interval_form.specs.Expression.{Number, Variable, Add};
+ghost use Rattle.spl_core.specs.Expression.{Number, Variable, Add};
 ghost use Rattle.transfer_def.specs.Assign.{assigned};
 
 use crate::matrix::FullMatrix;

@@ -10,7 +10,7 @@ use Rattle.oct_def.specs.Table.{Matrix, at}
 use Rattle.oct_def.specs.Laws.{TopIsValue}
 use Rattle.oct_def.specs.Octagon.{Octagon, IsValueOver, IsOctagon, top_value}
 use Rattle.oct_def.proofs.Bounds.{half_low, half_high}
-use Rattle.interval_form.specs.Expression.{Number, Variable, Add}
+use Rattle.spl_core.specs.Expression.{Number, Variable, Add}
 use Rattle.transfer_def.specs.Laws.{AssignmentIsValue}
 use Rattle.small_program.specs.Reading.{Reading}
 use Rattle.small_program.specs.declared.statement.SmallStmt.{SmallStmt}

@@ -7,7 +7,7 @@ use Rattle.oct_def.specs.Laws.{TopIsMet}
 use Rattle.oct_def.specs.Table.{Matrix}
 use Rattle.oct_def.specs.Matrix.{MeetsValue}
 use Rattle.oct_def.specs.Octagon.{Octagon, MeetsOctagon, top_value}
-use Rattle.interval_form.specs.Expression.{Expression, Number, Variable, Add, State, eval, IsOver}
+use Rattle.spl_core.specs.Expression.{Expression, Number, Variable, Add, State, eval, IsOver}
 use Rattle.transfer_def.specs.Assign.{assign_value}
 use Rattle.transfer_def.specs.Laws.{AssignmentIsSound}
 use Rattle.small_program.specs.Reading.{Reading}

@@ -3,7 +3,7 @@
 use Rattle.std.specs.Prelude.{ℕ, List, fold, take, Option}
 use Rattle.std.specs.Option.{option_map}
 use Rattle.oct_def.specs.Octagon.{Octagon, top_value}
-use Rattle.interval_form.specs.Expression.{Number, Variable, Add}
+use Rattle.spl_core.specs.Expression.{Number, Variable, Add}
 use Rattle.transfer_def.specs.Assign.{assign_value}
 use Rattle.small_program.specs.Reading.{Reading}
 use Rattle.small_program.specs.declared.statement.SmallStmt.{SmallStmt}

@@ -1,7 +1,7 @@
 -- Runs of a small program over integers without limit.
 use Rattle.std.specs.Prelude.{◌≡◌, ℕ, zero, suc, ◌+◌, List, [], ◌∷◌, length, Option, Some, slice_get, slice_set}
 use Rattle.std.specs.Option.{option_map}
-use Rattle.interval_form.specs.Expression.{Expression, Number, Variable, Add, State, eval}
+use Rattle.spl_core.specs.Expression.{Expression, Number, Variable, Add, State, eval}
 use Rattle.small_program.specs.Reading.{Reading}
 use Rattle.small_program.specs.declared.statement.SmallStmt.{SmallStmt}
 use Rattle.small_program.specs.declared.statement.SmallStmt.TheVariants as stmt

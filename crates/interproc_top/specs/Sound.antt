@@ -3,7 +3,7 @@ use Rattle.std.specs.Prelude.{ℕ, ◌+◌, List, [], ◌∷◌, None, Some}
 use Rattle.std.specs.List.{All}
 use Rattle.oct_def.specs.Table.{Matrix}
 use Rattle.oct_def.specs.Matrix.{Meets}
-use Rattle.interval_form.specs.Expression.{State}
+use Rattle.spl_core.specs.Expression.{State}
 use Rattle.small_program.specs.Reading.{Reading}
 use Rattle.small_program.specs.InRange.{NamesVariables}
 use Rattle.interproc_top.specs.Analysis.{Note, note_after}

@@ -1,18 +1,20 @@
 -- Join, widening and narrowing give values and keep the states that they must keep.
 use Rattle.std.proofs.Common.{◌≡◌, ℕ, ◌*◌, ◌<◌, ◌⊎◌, inl, inr, Bool, true, false, cond, eqb, List, length, Option, Some, None, refl, sym, ap, ◌∙◌, subst, arith}
 use Rattle.std.specs.Prelude.{ℤ, pos}
+use Rattle.std.specs.Option.{option_and_then}
 use Rattle.std.proofs.lemmas.Int.{ints}
 use Rattle.std.proofs.lemmas.Bool.Decides.{Decides-eqb, same_from_decides}
-use Rattle.oct_def.specs.Bound.{Bound, greatest, at_most, IsEven, InRange, Within}
+use Rattle.oct_def.specs.Bound.{Bound, least, greatest, at_most, IsEven, InRange, Within}
 use Rattle.oct_def.specs.Table.{Matrix, table, at}
-use Rattle.oct_def.specs.Matrix.{opposite, IsEvenMatrix, MeetsValue}
-use Rattle.oct_def.specs.Octagon.{Octagon, IsOctagon, IsValueOver, MeetsOctagon, top_entry, top_matrix, top_value, tight_option, tight_value, join_entry, join_matrix, join_option, join_value, widen_bound, widen_entry, widen_matrix, widen_option, widen_value, narrow_bound, narrow_entry, narrow_matrix, narrow_option, narrow_value}
+use Rattle.oct_def.specs.Matrix.{opposite, IsEvenMatrix, Meets, MeetsValue}
+use Rattle.oct_def.specs.Tight.{tight}
+use Rattle.oct_def.specs.Octagon.{Octagon, IsOctagon, IsValueOver, MeetsOctagon, top_entry, top_matrix, top_value, on_either, on_both, tight_value, least_entry, least_matrix, join_entry, join_matrix, join_value, widen_bound, widen_entry, widen_matrix, widen_value, narrow_bound, narrow_entry, narrow_matrix, narrow_value}
 use Rattle.oct_def.proofs.Tables.{length-table, at-table, square-table}
-use Rattle.oct_def.proofs.Bounds.{within-greatest_left, within-greatest_right, within-at_most, greatest_is}
+use Rattle.oct_def.proofs.Bounds.{within-greatest_left, within-greatest_right, within-at_most, within-least, greatest_is}
 use Rattle.oct_def.proofs.Indices.{opposite_same}
 use Rattle.oct_def.proofs.Sound.{difference, meets-table}
-use Rattle.oct_def.proofs.Coherent.{coherent-table}
-use Rattle.oct_def.proofs.Values.{each-table, even_unary-table, EvenUnary, value-tight}
+use Rattle.oct_def.proofs.Coherent.{coherent-table, twin}
+use Rattle.oct_def.proofs.Values.{IsShape, IsLow, LowDiagonal, in_range-least, low-least, each-table, even_unary-table, EvenUnary, value-tight}
 
 -- ---- an operation that picks one of two bounds or none, entry by entry
 
@@ -68,19 +70,19 @@ picks-narrow (Some x) y = inr (inl refl)
 
 -- ---- values
 
-value-join : (n : ℕ) (a b : Option Matrix) → IsValueOver n a → IsValueOver n b → IsValueOver n (join_option a b)
+value-join : (n : ℕ) (a b : Option Matrix) → IsValueOver n a → IsValueOver n b → IsValueOver n (on_either join_matrix a b)
 unfolding join_matrix join_entry
 value-join n None b p q = q
 value-join n (Some x) None p q = p
 value-join n (Some x) (Some y) p q = even_matrix-picked n x y greatest picks-greatest refl p q
 
-value-widen : (n : ℕ) (a b : Option Matrix) → IsValueOver n a → IsValueOver n b → IsValueOver n (widen_option a b)
+value-widen : (n : ℕ) (a b : Option Matrix) → IsValueOver n a → IsValueOver n b → IsValueOver n (on_either widen_matrix a b)
 unfolding widen_matrix widen_entry
 value-widen n None b p q = q
 value-widen n (Some x) None p q = p
 value-widen n (Some x) (Some y) p q = even_matrix-picked n x y widen_bound picks-widen refl p q
 
-value-narrow : (n : ℕ) (a b : Option Matrix) → IsValueOver n a → IsValueOver n b → IsValueOver n (narrow_option a b)
+value-narrow : (n : ℕ) (a b : Option Matrix) → IsValueOver n a → IsValueOver n b → IsValueOver n (on_both narrow_matrix a b)
 unfolding narrow_matrix narrow_entry
 value-narrow n None b p q = tt
 value-narrow n (Some x) None p q = tt
@@ -98,13 +100,13 @@ pub octagon-narrow : (a b : Octagon) → IsOctagon a → IsOctagon b → a.dims 
 unfolding narrow_value
 octagon-narrow a b p q e = value-narrow a.dims a.matrix b.matrix p (subst (λ n. IsValueOver n b.matrix) (sym e) q)
 
-value-tight_option : (n : ℕ) (v : Option Matrix) → IsValueOver n v → IsValueOver n (tight_option v)
-value-tight_option n None h = tt
-value-tight_option n (Some m) h = value-tight n m h.matrix
+value-tight_each : (n : ℕ) (v : Option Matrix) → IsValueOver n v → IsValueOver n (option_and_then tight v)
+value-tight_each n None h = tt
+value-tight_each n (Some m) h = value-tight n m h.matrix
 
 pub octagon-tight : (v : Octagon) → IsOctagon v → IsOctagon (tight_value v)
 unfolding tight_value
-octagon-tight v h = value-tight_option v.dims v.matrix h
+octagon-tight v h = value-tight_each v.dims v.matrix h
 
 -- ---- the top value
 
@@ -158,20 +160,20 @@ pub meets-top : (n : ℕ) (s : List ℤ) → MeetsOctagon s (top_value n)
 unfolding top_value top_matrix
 meets-top n s = meets-table s (2 * n) top_entry (λ i j p q. within_top s i j)
 
-meets-join_option : (s : List ℤ) (a b : Option Matrix) → MeetsValue s a ⊎ MeetsValue s b → MeetsValue s (join_option a b)
+meets-joined : (s : List ℤ) (a b : Option Matrix) → MeetsValue s a ⊎ MeetsValue s b → MeetsValue s (on_either join_matrix a b)
 unfolding join_matrix join_entry
-meets-join_option s None b (inl h) = absurd h
-meets-join_option s None b (inr h) = h
-meets-join_option s (Some x) None (inl h) = h
-meets-join_option s (Some x) None (inr h) = absurd h
-meets-join_option s (Some x) (Some y) (inl h) =
+meets-joined s None b (inl h) = absurd h
+meets-joined s None b (inr h) = h
+meets-joined s (Some x) None (inl h) = h
+meets-joined s (Some x) None (inr h) = absurd h
+meets-joined s (Some x) (Some y) (inl h) =
     meets-table s (length x) (join_entry x y) (λ i j p q. within-greatest_left (difference s i j) (at x i j) (at y i j) (h.within i j))
-meets-join_option s (Some x) (Some y) (inr h) =
+meets-joined s (Some x) (Some y) (inr h) =
     meets-table s (length x) (join_entry x y) (λ i j p q. within-greatest_right (difference s i j) (at x i j) (at y i j) (h.within i j))
 
 pub meets-join : (a b : Octagon) (s : List ℤ) → MeetsOctagon s a ⊎ MeetsOctagon s b → MeetsOctagon s (join_value a b)
 unfolding join_value
-meets-join a b s h = meets-join_option s a.matrix b.matrix h
+meets-join a b s h = meets-joined s a.matrix b.matrix h
 
 within-widen_left : (x : ℤ) (a b : Bound) → Within x a → Within x (widen_bound a b)
 within-widen_left x a b h = by (at_most b a)
@@ -187,32 +189,56 @@ within-widen_right x a b h = by (at_most b a) refl
     by true e = within-at_most x b a e h
     by false e = tt
 
-meets-widen_option : (s : List ℤ) (a b : Option Matrix) → MeetsValue s a ⊎ MeetsValue s b → MeetsValue s (widen_option a b)
+meets-widened : (s : List ℤ) (a b : Option Matrix) → MeetsValue s a ⊎ MeetsValue s b → MeetsValue s (on_either widen_matrix a b)
 unfolding widen_matrix widen_entry
-meets-widen_option s None b (inl h) = absurd h
-meets-widen_option s None b (inr h) = h
-meets-widen_option s (Some x) None (inl h) = h
-meets-widen_option s (Some x) None (inr h) = absurd h
-meets-widen_option s (Some x) (Some y) (inl h) =
+meets-widened s None b (inl h) = absurd h
+meets-widened s None b (inr h) = h
+meets-widened s (Some x) None (inl h) = h
+meets-widened s (Some x) None (inr h) = absurd h
+meets-widened s (Some x) (Some y) (inl h) =
     meets-table s (length x) (widen_entry x y) (λ i j p q. within-widen_left (difference s i j) (at x i j) (at y i j) (h.within i j))
-meets-widen_option s (Some x) (Some y) (inr h) =
+meets-widened s (Some x) (Some y) (inr h) =
     meets-table s (length x) (widen_entry x y) (λ i j p q. within-widen_right (difference s i j) (at x i j) (at y i j) (h.within i j))
 
 pub meets-widen : (a b : Octagon) (s : List ℤ) → MeetsOctagon s a ⊎ MeetsOctagon s b → MeetsOctagon s (widen_value a b)
 unfolding widen_value
-meets-widen a b s h = meets-widen_option s a.matrix b.matrix h
+meets-widen a b s h = meets-widened s a.matrix b.matrix h
 
 within-narrow : (x : ℤ) (a b : Bound) → Within x a → Within x b → Within x (narrow_bound a b)
 within-narrow x None b p q = q
 within-narrow x (Some y) b p q = p
 
-meets-narrow_option : (s : List ℤ) (a b : Option Matrix) → MeetsValue s a → MeetsValue s b → MeetsValue s (narrow_option a b)
+meets-narrowed : (s : List ℤ) (a b : Option Matrix) → MeetsValue s a → MeetsValue s b → MeetsValue s (on_both narrow_matrix a b)
 unfolding narrow_matrix narrow_entry
-meets-narrow_option s None b p q = absurd p
-meets-narrow_option s (Some x) None p q = absurd q
-meets-narrow_option s (Some x) (Some y) p q =
+meets-narrowed s None b p q = absurd p
+meets-narrowed s (Some x) None p q = absurd q
+meets-narrowed s (Some x) (Some y) p q =
     meets-table s (length x) (narrow_entry x y) (λ i j hi hj. within-narrow (difference s i j) (at x i j) (at y i j) (p.within i j) (q.within i j))
 
 pub meets-narrow : (a b : Octagon) (s : List ℤ) → MeetsOctagon s a → MeetsOctagon s b → MeetsOctagon s (narrow_value a b)
 unfolding narrow_value
-meets-narrow a b s p q = meets-narrow_option s a.matrix b.matrix p q
+meets-narrow a b s p q = meets-narrowed s a.matrix b.matrix p q
+
+-- ---- the bounds of two matrices
+
+pub meets-least_matrix : (a b : Matrix) (s : List ℤ) → Meets s a → Meets s b → Meets s (least_matrix a b)
+unfolding least_matrix least_entry
+meets-least_matrix a b s h k =
+    meets-table s (length a) (least_entry a b) (λ i j p q. within-least (difference s i j) (at a i j) (at b i j) (h.within i j) (k.within i j))
+
+pub shape-least_matrix : (n : ℕ) (a b : Matrix) → IsShape n a → IsShape n b → IsShape n (least_matrix a b)
+unfolding least_matrix least_entry
+shape-least_matrix n a b va vb = subst (λ t. IsShape n (table t (least_entry a b))) (sym va.rows) record {
+  rows = length-table (2 * n) (least_entry a b);
+  square = square-table (2 * n) (least_entry a b);
+  coherent = coherent-table n (least_entry a b) (λ i j p q.
+      ap (λ x. least x (at b i j)) (twin n a va.rows va.coherent i j p q)
+      ∙ ap (least (at a (opposite j) (opposite i))) (twin n b vb.rows vb.coherent i j p q));
+  in_range = each-table InRange tt (2 * n) (least_entry a b) (λ i j p q. in_range-least (at a i j) (at b i j) (va.in_range i j) (vb.in_range i j));
+}
+
+pub low_diagonal-least_matrix : (a b : Matrix) → LowDiagonal a → LowDiagonal (least_matrix a b)
+unfolding LowDiagonal least_matrix least_entry
+low_diagonal-least_matrix a b h i p =
+    let q : i < length a = omega (arith, length-table (length a) (least_entry a b)) in
+    subst IsLow (sym (at-table (length a) (least_entry a b) i i q q)) (low-least (at a i i) (at b i i) (h i q))

@@ -1,6 +1,7 @@
 pub mod Tables
 pub mod Bounds
 pub mod Orders
+pub mod Weights
 pub mod Indices
 pub mod Sound
 pub mod Coherent

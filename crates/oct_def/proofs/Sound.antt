@@ -6,7 +6,7 @@ use Rattle.std.proofs.lemmas.Bool.Decides.{Decides-eqb}
 use Rattle.oct_def.specs.Bound.{Bound, plus, half, evened, Within}
 use Rattle.oct_def.specs.Table.{Matrix, table, at}
 use Rattle.oct_def.specs.Matrix.{opposite, signed_value, Meets, MeetsValue, IsSquare}
-use Rattle.oct_def.specs.Tight.{path, long_path, least_of_five, pivot_entry, pair_entry, pair_step, pair_steps, closure, negative_loop, has_negative_loop, even_entry, evening, crossing, has_crossing, strong_entry, strengthening, tight_even, tight_closed, tight}
+use Rattle.oct_def.specs.Tight.{path, long_path, least_of_five, pivot_entry, pair_entry, pair_step, pair_steps, closure, negative_cycle, has_negative_cycle, even_entry, evening, crossing, has_crossing, strong_entry, strengthening, tight_even, tight_closed, tight}
 use Rattle.oct_def.proofs.Tables.{length-table, at-table, square-table, at-past_row, at-past_column}
 use Rattle.oct_def.proofs.Bounds.{within-clamped, within-plus, within-least, within-least_left, within-half, within-evened, within-evened_back, not_negative}
 use Rattle.oct_def.proofs.Indices.{signed-opposite, unary_difference, some_index-none, opposite_twice}
@@ -159,9 +159,9 @@ meets-strengthening_back s m sq h = meets-square s m sq (λ i j p q.
 
 -- ---- the tests for Bottom
 
-pub no_negative_loop : (s : List ℤ) (m : Matrix) → Meets s m → has_negative_loop m ≡ false
-unfolding has_negative_loop negative_loop
-no_negative_loop s m h = some_index-none (length m) (negative_loop m)
+pub no_negative_cycle : (s : List ℤ) (m : Matrix) → Meets s m → has_negative_cycle m ≡ false
+unfolding has_negative_cycle negative_cycle
+no_negative_cycle s m h = some_index-none (length m) (negative_cycle m)
     (λ i p. not_negative (at m i i) (within_at (difference s i i) (pos 0) (at m i i) (omega (arith, ints)) (h.within i i)))
 
 pub no_crossing : (s : List ℤ) (m : Matrix) → Meets s m → has_crossing m ≡ false
@@ -186,7 +186,7 @@ meets-tight_even s m h = meets_unless s (has_crossing m) (Some (strengthening m)
 
 meets-tight_closed : (s : List ℤ) (m : Matrix) → Meets s m → MeetsValue s (tight_closed m)
 unfolding tight_closed
-meets-tight_closed s m h = meets_unless s (has_negative_loop m) (tight_even (evening m)) (no_negative_loop s m h) (meets-tight_even s (evening m) (meets-evening s m h))
+meets-tight_closed s m h = meets_unless s (has_negative_cycle m) (tight_even (evening m)) (no_negative_cycle s m h) (meets-tight_even s (evening m) (meets-evening s m h))
 
 pub meets-tight : (s : List ℤ) (m : Matrix) → Meets s m → MeetsValue s (tight m)
 unfolding tight closure
@@ -195,7 +195,7 @@ meets-tight s m h = meets-tight_closed s (closure m) (meets-pair_steps s m (leng
 meets-tight_closed_back : (s : List ℤ) (m : Matrix) → IsSquare m → MeetsValue s (tight_closed m) → Meets s m
 unfolding tight_closed tight_even evening
 meets-tight_closed_back s m sq h =
-    let even = meets_unless_back s (has_crossing (evening m)) (Some (strengthening (evening m))) (meets_unless_back s (has_negative_loop m) (tight_even (evening m)) h) in
+    let even = meets_unless_back s (has_crossing (evening m)) (Some (strengthening (evening m))) (meets_unless_back s (has_negative_cycle m) (tight_even (evening m)) h) in
     meets-evening_back s m sq (meets-strengthening_back s (evening m) (square-table (length m) (even_entry m)) even)
 
 pub meets-tight_back : (s : List ℤ) (m : Matrix) → IsSquare m → MeetsValue s (tight m) → Meets s m

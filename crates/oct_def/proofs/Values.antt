@@ -6,7 +6,7 @@ use Rattle.std.proofs.lemmas.Bool.Decides.{Decides-eqb}
 use Rattle.oct_def.specs.Bound.{Bound, plus, least, half, evened, floor_half, is_negative, IsEven, InRange}
 use Rattle.oct_def.specs.Table.{Matrix, table, at}
 use Rattle.oct_def.specs.Matrix.{opposite, IsSquare, IsCoherent, IsMatrix, IsEvenMatrix}
-use Rattle.oct_def.specs.Tight.{path, long_path, pivot_entry, pair_entry, pair_step, pair_steps, closure, negative_loop, has_negative_loop, even_entry, evening, crossing, has_crossing, strong_entry, strengthening, tight_even, tight_closed, tight}
+use Rattle.oct_def.specs.Tight.{path, long_path, pivot_entry, pair_entry, pair_step, pair_steps, closure, negative_cycle, has_negative_cycle, even_entry, evening, crossing, has_crossing, strong_entry, strengthening, tight_even, tight_closed, tight}
 use Rattle.oct_def.specs.Octagon.{IsValueOver}
 use Rattle.oct_def.proofs.Tables.{length-table, at-table, square-table, at-past_row, at-past_column}
 use Rattle.oct_def.proofs.Bounds.{in_range-clamped, in_range-evened, in_range-halves, even-evened, least_is, of_choice, least_self, int_min_left}
@@ -103,26 +103,26 @@ shape-strengthening n m v = record {
 pub data IsLow (b : Bound) : Type 0 where
   low : (x : ℤ) → b ≡ Some x → x ≤ℤ pos 0 → IsLow b
 
-low-least : (a b : Bound) → IsLow a → IsLow (least a b)
+pub low-least : (a b : Bound) → IsLow a → IsLow (least a b)
 low-least a b (low x e h) = subst (λ t. IsLow (least t b)) (sym e) (by b)
   where
     by : (b : Bound) → IsLow (least (Some x) b)
     by None = low x refl h
     by (Some y) = low _ refl (let l = int_min_left x y in omega (arith, ints))
 
-unfoldable pub LowLoops : Matrix → Type 0
-LowLoops m = (i : ℕ) → i < length m → IsLow (at m i i)
+unfoldable pub LowDiagonal : Matrix → Type 0
+LowDiagonal m = (i : ℕ) → i < length m → IsLow (at m i i)
 
-low_loops-pair_step : (k : ℕ) (m : Matrix) → LowLoops m → LowLoops (pair_step k m)
-unfolding LowLoops pair_step pair_entry pivot_entry
-low_loops-pair_step k m h i p =
+low_diagonal-pair_step : (k : ℕ) (m : Matrix) → LowDiagonal m → LowDiagonal (pair_step k m)
+unfolding LowDiagonal pair_step pair_entry pivot_entry
+low_diagonal-pair_step k m h i p =
     let q : i < length m = omega (arith, length-table (length m) (pair_entry k m)) in
     subst IsLow (sym (at-table (length m) (pair_entry k m) i i q q)) (low-least (at m i i) _ (h i q))
 
-low_loops-pair_steps : (n : ℕ) (m : Matrix) → LowLoops m → LowLoops (pair_steps n m)
+low_diagonal-pair_steps : (n : ℕ) (m : Matrix) → LowDiagonal m → LowDiagonal (pair_steps n m)
 unfolding pair_steps
-low_loops-pair_steps zero m h = h
-low_loops-pair_steps (suc n) m h = low_loops-pair_step n (pair_steps n m) (low_loops-pair_steps n m h)
+low_diagonal-pair_steps zero m h = h
+low_diagonal-pair_steps (suc n) m h = low_diagonal-pair_step n (pair_steps n m) (low_diagonal-pair_steps n m h)
 
 zero_if_low : (b : Bound) → IsLow b → is_negative b ≡ false → b ≡ Some (pos 0)
 zero_if_low b (low x e h) f =
@@ -131,12 +131,12 @@ zero_if_low b (low x e h) f =
     e ∙ ap Some z
 
 -- the diagonal is 0
-unfoldable pub ZeroLoops : Matrix → Type 0
-ZeroLoops m = (i : ℕ) → i < length m → at m i i ≡ Some (pos 0)
+unfoldable pub ZeroDiagonal : Matrix → Type 0
+ZeroDiagonal m = (i : ℕ) → i < length m → at m i i ≡ Some (pos 0)
 
-zero_loops : (m : Matrix) → LowLoops m → has_negative_loop m ≡ false → ZeroLoops m
-unfolding LowLoops ZeroLoops has_negative_loop negative_loop
-zero_loops m h e i p = zero_if_low (at m i i) (h i p) (some_index-each (length m) (negative_loop m) e i p)
+zero_diagonal : (m : Matrix) → LowDiagonal m → has_negative_cycle m ≡ false → ZeroDiagonal m
+unfolding LowDiagonal ZeroDiagonal has_negative_cycle negative_cycle
+zero_diagonal m h e i p = zero_if_low (at m i i) (h i p) (some_index-each (length m) (negative_cycle m) e i p)
 
 not_opposite : (i : ℕ) → eqb i (opposite i) ≡ false
 not_opposite i = by (eqb i (opposite i)) refl
@@ -145,9 +145,9 @@ not_opposite i = by (eqb i (opposite i)) refl
     by false e = refl
     by true e = absurd (let same = (Decides-eqb i (opposite i)).0 e in omega arith)
 
-zero_loops-evening : (m : Matrix) → ZeroLoops m → ZeroLoops (evening m)
-unfolding ZeroLoops evening even_entry
-zero_loops-evening m h i p =
+zero_diagonal-evening : (m : Matrix) → ZeroDiagonal m → ZeroDiagonal (evening m)
+unfolding ZeroDiagonal evening even_entry
+zero_diagonal-evening m h i p =
     let q : i < length m = omega (arith, length-table (length m) (even_entry m)) in
     at-table (length m) (even_entry m) i i q q ∙ ap (λ (b : Bool). cond b (evened (at m i i)) (at m i i)) (not_opposite i) ∙ h i q
 
@@ -201,9 +201,9 @@ halves_above (Some x) (Some y) ea eb h =
     let g : int_lt (x +ℤ y) (pos 0) ≡ false = h in
     ap Some (omega (arith, ints, clamps))
 
-zero_loops-strengthening : (m : Matrix) → ZeroLoops m → EvenUnary m → has_crossing m ≡ false → ZeroLoops (strengthening m)
-unfolding ZeroLoops EvenUnary strengthening strong_entry has_crossing crossing
-zero_loops-strengthening m z h e i p =
+zero_diagonal-strengthening : (m : Matrix) → ZeroDiagonal m → EvenUnary m → has_crossing m ≡ false → ZeroDiagonal (strengthening m)
+unfolding ZeroDiagonal EvenUnary strengthening strong_entry has_crossing crossing
+zero_diagonal-strengthening m z h e i p =
     let q : i < length m = omega (arith, length-table (length m) (strong_entry m)) in
     let turned : IsEven (at m (opposite i) i) = subst (λ t. IsEven (at m (opposite i) t)) (opposite_twice i) (h (opposite i)) in
     at-table (length m) (strong_entry m) i i q q
@@ -216,29 +216,33 @@ value_unless : (n : ℕ) (b : Bool) (v : Option Matrix) → (b ≡ false → IsV
 value_unless n true v h = tt
 value_unless n false v h = h refl
 
-even_matrix : (n : ℕ) (m : Matrix) → IsShape n m → ZeroLoops m → EvenUnary m → IsEvenMatrix n m
-unfolding ZeroLoops EvenUnary
+even_matrix : (n : ℕ) (m : Matrix) → IsShape n m → ZeroDiagonal m → EvenUnary m → IsEvenMatrix n m
+unfolding ZeroDiagonal EvenUnary
 even_matrix n m v z e = record {
   matrix = record { rows = v.rows; square = v.square; coherent = v.coherent; in_range = v.in_range; diagonal = z };
   even = e;
 }
 
-value-tight_even : (n : ℕ) (m : Matrix) → IsShape n m → ZeroLoops m → EvenUnary m → IsValueOver n (tight_even m)
+value-tight_even : (n : ℕ) (m : Matrix) → IsShape n m → ZeroDiagonal m → EvenUnary m → IsValueOver n (tight_even m)
 unfolding tight_even
 value-tight_even n m v z e = value_unless n (has_crossing m) (Some (strengthening m)) (λ c.
-    even_matrix n (strengthening m) (shape-strengthening n m v) (zero_loops-strengthening m z e c) (even_unary-strengthening n m v.rows e))
+    even_matrix n (strengthening m) (shape-strengthening n m v) (zero_diagonal-strengthening m z e c) (even_unary-strengthening n m v.rows e))
 
-value-tight_closed : (n : ℕ) (m : Matrix) → IsShape n m → LowLoops m → IsValueOver n (tight_closed m)
+value-tight_closed : (n : ℕ) (m : Matrix) → IsShape n m → LowDiagonal m → IsValueOver n (tight_closed m)
 unfolding tight_closed
-value-tight_closed n m v l = value_unless n (has_negative_loop m) (tight_even (evening m)) (λ c.
-    value-tight_even n (evening m) (shape-evening n m v) (zero_loops-evening m (zero_loops m l c)) (even_unary-evening n m v.rows))
+value-tight_closed n m v l = value_unless n (has_negative_cycle m) (tight_even (evening m)) (λ c.
+    value-tight_even n (evening m) (shape-evening n m v) (zero_diagonal-evening m (zero_diagonal m l c)) (even_unary-evening n m v.rows))
 
-low_loops : (n : ℕ) (m : Matrix) → IsMatrix n m → LowLoops m
-unfolding LowLoops
-low_loops n m v i p = low (pos 0) (v.diagonal i p) (omega (arith, ints))
+-- a coherent matrix whose diagonal is at most 0 is enough
+pub value-tight_low : (n : ℕ) (m : Matrix) → IsShape n m → LowDiagonal m → IsValueOver n (tight m)
+unfolding tight closure
+value-tight_low n m v l =
+    let k : length m / 2 ≤ n = omega (arith, v.rows) in
+    value-tight_closed n (pair_steps (length m / 2) m) (shape-pair_steps n m (length m / 2) k v) (low_diagonal-pair_steps (length m / 2) m l)
+
+low_diagonal : (n : ℕ) (m : Matrix) → IsMatrix n m → LowDiagonal m
+unfolding LowDiagonal
+low_diagonal n m v i p = low (pos 0) (v.diagonal i p) (omega (arith, ints))
 
 pub value-tight : (n : ℕ) (m : Matrix) → IsMatrix n m → IsValueOver n (tight m)
-unfolding tight closure
-value-tight n m v =
-    let k : length m / 2 ≤ n = omega (arith, v.rows) in
-    value-tight_closed n (pair_steps (length m / 2) m) (shape-pair_steps n m (length m / 2) k (shape-matrix n m v)) (low_loops-pair_steps (length m / 2) m (low_loops n m v))
+value-tight n m v = value-tight_low n m (shape-matrix n m v) (low_diagonal n m v)

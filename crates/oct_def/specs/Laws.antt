@@ -3,7 +3,7 @@ use Rattle.std.specs.Prelude.{◌≡◌, ℕ, ◌⊎◌, ◌↔◌, List, ℤ}
 use Rattle.oct_def.specs.Table.{Matrix}
 use Rattle.oct_def.specs.Matrix.{Meets, MeetsValue, IsSquare, IsMatrix}
 use Rattle.oct_def.specs.Tight.{tight}
-use Rattle.oct_def.specs.Octagon.{Octagon, IsOctagon, IsValueOver, MeetsOctagon, bottom_value, top_value, tight_value, join_value, widen_value, narrow_value}
+use Rattle.oct_def.specs.Octagon.{Octagon, IsOctagon, IsValueOver, MeetsOctagon, bottom_value, top_value, tight_value, join_value, least_matrix, widen_value, narrow_value}
 
 -- an integer state meets the tight closure of a square matrix exactly where it meets the matrix
 abbrev pub TightKeepsStates : Type 0
@@ -29,6 +29,10 @@ WideningIsSound = (a b : Octagon) (s : List ℤ) → MeetsOctagon s a ⊎ MeetsO
 -- a state that meets both sides meets the narrowing
 abbrev pub NarrowingIsSound : Type 0
 NarrowingIsSound = (a b : Octagon) (s : List ℤ) → MeetsOctagon s a → MeetsOctagon s b → MeetsOctagon s (narrow_value a b)
+
+-- a state that meets two matrices meets the one of their lesser entries
+abbrev pub LeastIsSound : Type 0
+LeastIsSound = (a b : Matrix) (s : List ℤ) → Meets s a → Meets s b → Meets s (least_matrix a b)
 
 -- join, widening and narrowing of two values over as many variables are values
 abbrev pub JoinGivesValues : Type 0

@@ -1,4 +1,5 @@
 pub mod Bound
+pub mod Limits
 pub mod Table
 pub mod Matrix
 pub mod Tight

@@ -2,7 +2,8 @@
 -- Join, widening and narrowing are those of A. Miné, "The Octagon Abstract Domain", Higher-Order and Symbolic
 -- Computation 19 (2006).
 use Rattle.std.specs.Prelude.{ℕ, ◌*◌, nat_eq, Option, Some, None, List, length, ℤ, pos, if◌then◌else◌}
-use Rattle.oct_def.specs.Bound.{Bound, greatest, at_most}
+use Rattle.std.specs.Option.{option_and_then}
+use Rattle.oct_def.specs.Bound.{Bound, least, greatest, at_most}
 use Rattle.oct_def.specs.Table.{Matrix, table, at}
 use Rattle.oct_def.specs.Matrix.{IsEvenMatrix, MeetsValue}
 use Rattle.oct_def.specs.Tight.{tight}
@@ -39,13 +40,25 @@ top_matrix n = table (2 * n) top_entry
 unfoldable pub top_value : ℕ → Octagon
 top_value n = record { dims = n; matrix = Some (top_matrix n) }
 
--- the tight closure of a value; that of Bottom is Bottom
-abbrev pub tight_option : Option Matrix → Option Matrix
-tight_option None = None
-tight_option (Some m) = tight m
+-- an operation on a value's matrix, which may end in Bottom; on Bottom it gives Bottom
+abbrev pub on_matrix : (Matrix → Option Matrix) → Octagon → Octagon
+on_matrix f v = record { dims = v.dims; matrix = option_and_then f v.matrix }
 
+-- an operation on the matrices of two values, where Bottom gives the other one
+abbrev pub on_either : (Matrix → Matrix → Matrix) → Option Matrix → Option Matrix → Option Matrix
+on_either f None b = b
+on_either f (Some x) None = Some x
+on_either f (Some x) (Some y) = Some (f x y)
+
+-- an operation on the matrices of two values, where Bottom on either side gives Bottom
+abbrev pub on_both : (Matrix → Matrix → Matrix) → Option Matrix → Option Matrix → Option Matrix
+on_both f None b = None
+on_both f (Some x) None = None
+on_both f (Some x) (Some y) = Some (f x y)
+
+-- the tight closure of a value
 unfoldable pub tight_value : Octagon → Octagon
-tight_value v = record { dims = v.dims; matrix = tight_option v.matrix }
+tight_value v = on_matrix tight v
 
 -- join: the greater entry at each place; Bottom gives the other side
 unfoldable pub join_entry : Matrix → Matrix → ℕ → ℕ → Bound
@@ -54,13 +67,15 @@ join_entry a b i j = greatest (at a i j) (at b i j)
 unfoldable pub join_matrix : Matrix → Matrix → Matrix
 join_matrix a b = table (length a) (join_entry a b)
 
-abbrev pub join_option : Option Matrix → Option Matrix → Option Matrix
-join_option None b = b
-join_option (Some x) None = Some x
-join_option (Some x) (Some y) = Some (join_matrix x y)
-
 unfoldable pub join_value : Octagon → Octagon → Octagon
-join_value a b = record { dims = a.dims; matrix = join_option a.matrix b.matrix }
+join_value a b = record { dims = a.dims; matrix = on_either join_matrix a.matrix b.matrix }
+
+-- the lesser entry at each place: the bounds of both matrices
+unfoldable pub least_entry : Matrix → Matrix → ℕ → ℕ → Bound
+least_entry a b i j = least (at a i j) (at b i j)
+
+unfoldable pub least_matrix : Matrix → Matrix → Matrix
+least_matrix a b = table (length a) (least_entry a b)
 
 -- widening: the left entry where the right one isn't above it, else none; Bottom gives the other side
 abbrev pub widen_bound : Bound → Bound → Bound
@@ -72,13 +87,8 @@ widen_entry a b i j = widen_bound (at a i j) (at b i j)
 unfoldable pub widen_matrix : Matrix → Matrix → Matrix
 widen_matrix a b = table (length a) (widen_entry a b)
 
-abbrev pub widen_option : Option Matrix → Option Matrix → Option Matrix
-widen_option None b = b
-widen_option (Some x) None = Some x
-widen_option (Some x) (Some y) = Some (widen_matrix x y)
-
 unfoldable pub widen_value : Octagon → Octagon → Octagon
-widen_value a b = record { dims = a.dims; matrix = widen_option a.matrix b.matrix }
+widen_value a b = record { dims = a.dims; matrix = on_either widen_matrix a.matrix b.matrix }
 
 -- narrowing: the right entry where the left one is none, else the left one; Bottom on either side gives Bottom
 abbrev pub narrow_bound : Bound → Bound → Bound
@@ -91,10 +101,5 @@ narrow_entry a b i j = narrow_bound (at a i j) (at b i j)
 unfoldable pub narrow_matrix : Matrix → Matrix → Matrix
 narrow_matrix a b = table (length a) (narrow_entry a b)
 
-abbrev pub narrow_option : Option Matrix → Option Matrix → Option Matrix
-narrow_option None b = None
-narrow_option (Some x) None = None
-narrow_option (Some x) (Some y) = Some (narrow_matrix x y)
-
 unfoldable pub narrow_value : Octagon → Octagon → Octagon
-narrow_value a b = record { dims = a.dims; matrix = narrow_option a.matrix b.matrix }
+narrow_value a b = record { dims = a.dims; matrix = on_both narrow_matrix a.matrix b.matrix }

@@ -40,12 +40,12 @@ pair_steps (suc n) m = pair_step n (pair_steps n m)
 unfoldable pub closure : Matrix → Matrix
 closure m = pair_steps (length m / 2) m
 
--- some entry of the diagonal is negative
-unfoldable pub negative_loop : Matrix → ℕ → Bool
-negative_loop m i = is_negative (at m i i)
+-- some entry of the diagonal is negative: a cycle of bounds whose sum is below 0
+unfoldable pub negative_cycle : Matrix → ℕ → Bool
+negative_cycle m i = is_negative (at m i i)
 
-unfoldable pub has_negative_loop : Matrix → Bool
-has_negative_loop m = some_index (length m) (negative_loop m)
+unfoldable pub has_negative_cycle : Matrix → Bool
+has_negative_cycle m = some_index (length m) (negative_cycle m)
 
 -- each unary entry becomes even, rounded down
 unfoldable pub even_entry : Matrix → ℕ → ℕ → Bound
@@ -61,9 +61,13 @@ crossing m i = is_negative (plus (at m i (opposite i)) (at m (opposite i) i))
 unfoldable pub has_crossing : Matrix → Bool
 has_crossing m = some_index (length m) (crossing m)
 
--- each entry becomes at most the sum of the halves of the unary entries of its two dimensions
+-- the entry that the unary entries of two dimensions imply: the sum of their halves
+abbrev pub implied_entry : Matrix → ℕ → ℕ → Bound
+implied_entry m i j = plus (half (at m i (opposite i))) (half (at m (opposite j) j))
+
+-- each entry becomes at most the implied one
 unfoldable pub strong_entry : Matrix → ℕ → ℕ → Bound
-strong_entry m i j = least (at m i j) (plus (half (at m i (opposite i))) (half (at m (opposite j) j)))
+strong_entry m i j = least (at m i j) (implied_entry m i j)
 
 unfoldable pub strengthening : Matrix → Matrix
 strengthening m = table (length m) (strong_entry m)
@@ -74,7 +78,7 @@ tight_even m = if has_crossing m then None else Some (strengthening m)
 
 -- what follows the closure: Bottom where a diagonal entry is negative, else the unary entries are evened
 unfoldable pub tight_closed : Matrix → Option Matrix
-tight_closed m = if has_negative_loop m then None else tight_even (evening m)
+tight_closed m = if has_negative_cycle m then None else tight_even (evening m)
 
 -- the tight closure; None is Bottom
 unfoldable pub tight : Matrix → Option Matrix

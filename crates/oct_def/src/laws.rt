@@ -1,6 +1,6 @@
 // The laws of the definitions, as calls whose contracts are the laws: each takes nothing and does nothing.
 // To use a law, call it and cite its `ensures`.
-ghost use Rattle.oct_def.specs.Laws.{TightKeepsStates, TightGivesValues, TightOfValues, JoinIsSound, WideningIsSound, NarrowingIsSound, JoinGivesValues, WideningGivesValues, NarrowingGivesValues, TopIsMet, TopIsValue, BottomIsValue, BottomIsNotMet};
+ghost use Rattle.oct_def.specs.Laws.{TightKeepsStates, TightGivesValues, TightOfValues, JoinIsSound, WideningIsSound, NarrowingIsSound, LeastIsSound, JoinGivesValues, WideningGivesValues, NarrowingGivesValues, TopIsMet, TopIsValue, BottomIsValue, BottomIsNotMet};
 ghost use Rattle.oct_def.specs.Examples.{WorkedClosures};
 
 /// The tight closure keeps exactly the integer states of a square matrix.
@@ -14,11 +14,12 @@ pub fn law_tight_values()
     ensures octagons { TightOfValues }
 {}
 
-/// Join and widening keep the states of both sides, narrowing those that both sides share.
+/// Join and widening keep the states of both sides, narrowing and the lesser entries those that both sides share.
 pub fn law_lattice()
     ensures join { JoinIsSound }
     ensures widening { WideningIsSound }
     ensures narrowing { NarrowingIsSound }
+    ensures least { LeastIsSound }
 {}
 
 /// Join, widening and narrowing of values of one number of variables are values.

@@ -8,7 +8,6 @@
 
 mod dimensions;
 mod laws;
-mod memory;
 mod words;
 
 pub use dimensions::opposite;
@@ -23,6 +22,13 @@ pub use words::{
 
 /// The greatest bound, 2^61. Bounds lie from `-LIMIT` to `LIMIT`.
 pub const LIMIT: i64 = 2305843009213693952;
+
+/// The most variables that a value may have.
+pub const MOST_DIMS: u32 = 256;
+
+/// The most variables that a matrix may have, those that an operation adds to a value's included: a return from a call
+/// adds up to 128 outputs.
+pub const MOST_MATRIX_DIMS: u32 = 512;
 
 /// The word that stands for no bound. It is above every other word.
 pub const NONE: i64 = i64::MAX;

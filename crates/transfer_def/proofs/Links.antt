@@ -3,7 +3,8 @@ use Rattle.std.proofs.Common.{◌≡◌, ◌⊎◌, ◌≢◌, ℕ, suc, ◌+◌
 use Rattle.std.proofs.lemmas.Bool.{cases_eq}
 use Rattle.std.proofs.lemmas.Bool.Decides.{nat_tests}
 use Rattle.oct_def.specs.Bound.{plus}
-use Rattle.interval_form.specs.Interval.{Interval, IsOutward, point, unbounded, negated, negated_bound, clamped_low, sum_of, product_of, range_at}
+use Rattle.interval_form.specs.declared.interval.Interval.{Interval}
+use Rattle.interval_form.specs.Interval.{IsOutward, point, unbounded, negated, negated_bound, clamped_low, sum_of, product_of, range_at}
 use Rattle.interval_form.specs.Form.{Form, nothing, coefficient, form_value, value_up_to}
 use Rattle.interval_form.specs.FormBounds.{point_size, signed_coefficient, signed_size, term_without, without, rest_bound}
 use Rattle.interval_form.proofs.Forms.{coefficient-form_of, constant-form_of}

@@ -4,7 +4,7 @@ use Rattle.oct_def.specs.Bound.{Bound, least}
 use Rattle.oct_def.specs.Matrix.{opposite}
 use Rattle.oct_def.proofs.Indices.{opposite_below}
 use Rattle.oct_def.proofs.Orders.{least_none}
-use Rattle.interval_form.specs.Interval.{Interval}
+use Rattle.interval_form.specs.declared.interval.Interval.{Interval}
 use Rattle.interval_form.specs.Form.{Form}
 use Rattle.interval_form.specs.FormBounds.{signed_size, rest_bound, pair_bound, unary_bound, sum_bound, form_entry}
 use Rattle.interval_form.proofs.Shapes.{rest_bound-turned}

@@ -1,6 +1,6 @@
 use Rattle.std.proofs.Common.{ap, ◌∙◌}
 use Rattle.oct_def.specs.Octagon.{Octagon}
-use Rattle.interval_form.specs.Expression.{Number, Variable, Add}
+use Rattle.spl_core.specs.Expression.{Number, Variable, Add}
 use Rattle.transfer_def.specs.Assign.{assigned}
 use Rattle.full_oct.proofs.Values.{matrix_read, assign_bottom, assign_kept, assign_is}
 use Rattle.full_oct.proofs.domain.FullDomain.assign_sum.Goals as goal
