@@ -1,5 +1,5 @@
 -- What the call graph of a core keeps: the tables of reaching and of cut points, and the order.
-use Rattle.std.specs.Prelude.{◌≡◌, ℕ, ◌<◌, Bool, false, ◌&&◌, ◌||◌, List, [], length, map, slice_index_or}
+use Rattle.std.specs.Prelude.{ℕ, Bool, false, List, [], length, map, slice_index_or}
 use Rattle.std.specs.List.{range_with_len}
 use Rattle.spl_core.specs.Graph.{Graph}
 use Rattle.call_graph.specs.Reach.{reaches}

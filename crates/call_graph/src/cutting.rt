@@ -22,7 +22,8 @@ pub(crate) fn cut_table(
     let heads = loop_heads(alloc, core)?;
     let mut cuts = Vec::new(alloc);
     for x in 0..core.points() {
-        cuts.push(heads[x as usize] || cuts_procedure(core, reached, x))?;
+        let cut = heads[x as usize] || cuts_procedure(core, reached, x);
+        cuts.push(cut)?;
     }
     Ok(cuts)
 }

@@ -2,6 +2,7 @@ use Rattle.std.proofs.Common.{ap, ◌∙◌, arith, map, length, Bool, Vec, Glob
 use Rattle.spl_core.specs.Graph.{graph_of}
 use Rattle.call_graph.specs.Reach.{reaches_below}
 use Rattle.call_graph.proofs.Closing.{first-reaches, last-reaches, step-reaches, pivot-within, slice-square}
+use Rattle.call_graph.proofs.Edges.{procs_same}
 use Rattle.call_graph.proofs.closure.closed.Goals as goal
 
 pub loop-k-init : goal.loop-k-init
@@ -19,4 +20,4 @@ loop-k-preserved c =
     (omega (arith, c.procs-k-end.ensures.count)) (ap (map (λ (r : Vec Bool Global). r.items)) c.deref.ensures.value ∙ c.loop-k.invariant) c.in_ok-rows.ensures
 
 pub returns : goal.returns
-returns c = c.loop-k.invariant ∙ last-reaches (graph_of c.args.core.now) (length c.args.core.now.procs) c.loop-k.k (omega (arith, c.procs-k-end.ensures.count))
+returns c = c.loop-k.invariant ∙ last-reaches (graph_of c.args.core.now) (length c.args.core.now.procs) c.loop-k.k (omega (arith, c.procs-k-end.ensures.count, procs_same c.args.core.now))
