@@ -2,12 +2,17 @@
 #![tactic(auto)]
 
 mod assignment;
+mod calls;
 mod closing;
+mod dimensions;
 mod domain;
 mod equation;
+mod lattice;
 mod matrix;
+mod value;
 
-pub use domain::{FullDomain, FullValue};
+pub use domain::FullDomain;
+pub use value::FullValue;
 
 #[cfg(test)]
 mod tests;
