@@ -1,5 +1,5 @@
 -- Entries of the matrix with one more variable, from the words of the code.
-use Rattle.std.proofs.Common.{◌≡◌, ◌≢◌, ℕ, ◌+◌, ◌*◌, ◌/◌, ◌<◌, Bool, true, false, ◌&&◌, ◌||◌, cond, eqb, ltb, length, Some, None, refl, sym, ap, ◌∙◌, arith}
+use Rattle.std.proofs.Common.{◌≡◌, ◌≢◌, ℕ, ◌+◌, ◌*◌, ◌/◌, ◌%◌, ◌<◌, [], ◌∷◌, ne_eqb, Bool, true, false, ◌&&◌, ◌||◌, cond, eqb, ltb, length, Some, None, refl, sym, ap, ◌∙◌, arith}
 use Rattle.std.specs.Prelude.{ℤ, pos, ◌+ℤ◌, neg_ℤ, nat_eq, nat_lt}
 use Rattle.std.specs.Prelude.{FitsSigned}
 use Rattle.std.specs.Int.{w64, cast_signed, cast_unsigned}
@@ -14,8 +14,8 @@ use Rattle.oct_def.specs.Matrix.{opposite}
 use Rattle.oct_def.specs.Octagon.{top_entry}
 use Rattle.oct_def.proofs.WordBounds.{bound_of-other}
 use Rattle.interval_form.specs.Interval.{wider}
-use Rattle.transfer_def.specs.Assign.{extended_entry, place_of}
-use Rattle.transfer_def.proofs.Sound.{place_of-target, place_of-other}
+use Rattle.transfer_def.specs.Dimensions.{extended_entry, moved_variable, moved_dimension}
+use Rattle.transfer_def.proofs.Dimensions.{moved_dimension-below}
 use Rattle.transfer_def.specs.Special.{twice_entry, sum_entry, twice_plus, lower_bound, upper_bound, below_entry, above_entry, offset_entry}
 
 pub twice_of : (t : ℕ) (b : Bound) (o i j : ℕ) (r : Bool) → o ≡ opposite i → r ≡ (nat_eq o t && nat_eq j t) → cond r b None ≡ twice_entry t b i j
@@ -86,12 +86,19 @@ pub clamp_same : (r k l : ℤ) → bound_of r ≡ clamp k → k ≡ l → bound_
 clamp_same r k l h e = h ∙ ap clamp e
 
 -- the last variable's place is one of the new matrix
-pub place_below : (n x i : ℕ) → i < 2 * n → place_of n x i < 2 * (n + 1)
-place_below n x i h = by (eqb (i / 2) x) refl
+pub place-target : (t x i : ℕ) → i / 2 ≡ x → moved_dimension t (x ∷ []) i ≡ 2 * t + i % 2
+unfolding moved_dimension moved_variable
+place-target t x i e = rw ((Decides-eqb (i / 2) x).1 e) refl
+
+pub place-other : (t x i : ℕ) → i / 2 ≢ x → moved_dimension t (x ∷ []) i ≡ i
+unfolding moved_dimension moved_variable
+place-other t x i d = rw (ne_eqb (i / 2) x d) (whole i)
   where
-    by : (b : Bool) → eqb (i / 2) x ≡ b → place_of n x i < 2 * (n + 1)
-    by true e = let p = place_of-target n x i ((Decides-eqb (i / 2) x).0 e) in omega arith
-    by false e = let p = place_of-other n x i (λ k. let t = (Decides-eqb (i / 2) x).1 k in cc) in omega arith
+    whole : (i : ℕ) → 2 * (i / 2) + i % 2 ≡ i
+    whole i = omega arith
+
+pub place_below : (n x i : ℕ) → i < 2 * n → moved_dimension n (x ∷ []) i < 2 * (n + 1)
+place_below n x i h = moved_dimension-below n (x ∷ []) i h
 
 -- the entry of an offset from its four bounds
 pub offset_of : (n y : ℕ) (k : ℤ) (m : Matrix) (i j : ℕ) (below above down up : Bound)

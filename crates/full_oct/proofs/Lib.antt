@@ -1,4 +1,5 @@
 pub mod Places
+pub mod Rows
 pub mod Entries
 pub mod Equations
 pub mod Values

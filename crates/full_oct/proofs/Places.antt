@@ -1,17 +1,17 @@
 -- Places of a full matrix: rows follow each other, and each place is filled once.
-use Rattle.std.proofs.Common.{◌≡◌, ℕ, ◌+◌, ◌*◌, ◌/◌, ◌%◌, ◌<◌, ◌≤◌, ◌⊎◌, inl, inr, List, [], ◌∷◌, ◌++◌, length, get_or, refl, sym, ap, ◌∙◌, subst, arith}
+use Rattle.std.proofs.Common.{◌≡◌, ℕ, zero, suc, ◌+◌, ◌*◌, ◌/◌, ◌%◌, ◌<◌, ◌≤◌, ◌⊎◌, inl, inr, List, [], ◌∷◌, ◌++◌, length, get_or, refl, sym, ap, ◌∙◌, subst, arith}
 use Rattle.std.specs.Prelude.{ℤ, pos}
 use Rattle.std.proofs.Common.{length-append, add-one, Bool, true, false, ◌||◌}
-use Rattle.std.proofs.lemmas.Nat.{mul-add-lt, div-mul-add, mod-mul-add}
-use Rattle.std.proofs.Math.Nat.{mul-le-mul_left}
-use Rattle.std.proofs.lemmas.List.{get_or_push, get_or_read, get_or_append_left}
+use Rattle.std.proofs.lemmas.Nat.{mul-add-lt, div-mul-add, mod-mul-add, div-add-mod'}
+use Rattle.std.proofs.Math.Nat.{mul-le-mul_left, div-lt_iff_lt-mul, mod-lt}
+use Rattle.std.proofs.lemmas.List.{ext_get_or, get_or_push, get_or_read, get_or_append_left}
 use Rattle.oct_def.specs.Bound.{bound_of, word_of}
 use Rattle.oct_def.specs.Table.{Matrix, at, some_index}
 use Rattle.oct_def.specs.Tight.{pair_step, pair_steps}
 use Rattle.oct_def.proofs.Indices.{some_index-each}
 use Rattle.oct_def.specs.Matrix.{IsSquare}
 use Rattle.oct_def.proofs.Tables.{length-table, at-table, square-table}
-use Rattle.oct_def.proofs.WordBounds.{word_of-bound_of}
+use Rattle.oct_def.proofs.WordBounds.{word_of-bound_of, same_word}
 use Rattle.full_oct.specs.Words.{word_entry, matrix_of, IsFull}
 
 pub length-matrix_of : (size : ℕ) (words : List ℤ) → length (matrix_of size words) ≡ size
@@ -37,7 +37,7 @@ pub place_within : (size : ℕ) (words : List ℤ) (i j : ℕ) → IsFull size w
 place_within size words i j f p q = omega (arith, mul-add-lt i size j size p q, f.filled)
 
 -- no place passes 2^63
-pub place_small : (size i j : ℕ) → size ≤ 514 → i < size → j < size → i * size + j < 264196
+pub place_small : (size i j : ℕ) → size ≤ 1024 → i < size → j < size → i * size + j < 1048576
 place_small size i j s p q =
     let a = mul-add-lt i size j size p q in
     let b = mul-le-mul_left size s in
@@ -96,3 +96,33 @@ some_index-found n test k lt e = by (some_index n test) refl
 pub pair_steps-more : (n : ℕ) (m : Matrix) → pair_step n (pair_steps n m) ≡ pair_steps (n + 1) m
 unfolding pair_steps
 pair_steps-more n m = rw add-one refl
+
+-- ---- matrices of the same words
+
+word_same : (size : ℕ) (xs ys : List ℤ) (k : ℕ) → length xs ≡ size * size → k < length xs → matrix_of size xs ≡ matrix_of size ys → get_or xs k (pos 0) ≡ get_or ys k (pos 0)
+word_same size xs ys k e lt h =
+    same_word (get_or xs k (pos 0)) (get_or ys k (pos 0))
+    (ap (λ t. bound_of (get_or xs t (pos 0))) (sym (div-add-mod' k size)) ∙ sym (at-matrix_of size xs (k / size) (k % size) row column)
+    ∙ ap (λ m. at m (k / size) (k % size)) h
+    ∙ at-matrix_of size ys (k / size) (k % size) row column ∙ ap (λ t. bound_of (get_or ys t (pos 0))) (div-add-mod' k size))
+  where
+    some_row : (n : ℕ) → k < n * n → 0 < n
+    some_row zero l = absurd (omega (arith, l))
+    some_row (suc n) l = omega arith
+
+    row : k / size < size
+    row = (div-lt_iff_lt-mul (some_row size (omega (arith, lt, e)))).1 (omega (arith, lt, e))
+
+    column : k % size < size
+    column = mod-lt k (some_row size (omega (arith, lt, e)))
+
+-- two matrices are the same where their words are
+pub same_words : (s t : ℕ) (xs ys : List ℤ) (m n : Matrix) → matrix_of s xs ≡ m → matrix_of t ys ≡ n → length n ≡ length m → xs ≡ ys → m ≡ n
+same_words s t xs ys m n em en e h =
+    sym em ∙ ap (matrix_of s) h ∙ ap (λ k. matrix_of k ys) (rows_of s xs m em ∙ sym e ∙ sym (rows_of t ys n en)) ∙ en
+
+pub words_same : (s t : ℕ) (xs ys : List ℤ) (m n : Matrix) → matrix_of s xs ≡ m → matrix_of t ys ≡ n → IsFull s xs → IsFull t ys → m ≡ n → xs ≡ ys
+words_same s t xs ys m n em en f g h =
+    let sizes : t ≡ s = rows_of t ys n en ∙ ap length (sym h) ∙ sym (rows_of s xs m em) in
+    let same : matrix_of s xs ≡ matrix_of s ys = em ∙ h ∙ sym en ∙ ap (λ k. matrix_of k ys) sizes in
+    ext_get_or (pos 0) xs ys (f.filled ∙ ap (λ k. k * k) (sym sizes) ∙ sym g.filled) (λ k lt. word_same s xs ys k f.filled lt same)

@@ -1,16 +1,17 @@
 -- Values of the plain domain, from the matrices of the code.
-use Rattle.std.proofs.Common.{◌≡◌, ℕ, ◌+◌, ◌*◌, ◌<◌, Option, Some, None, sym, ap, ◌∙◌, subst}
+use Rattle.std.proofs.Common.{◌≡◌, ℕ, [], ◌∷◌, ◌+◌, ◌*◌, ◌<◌, Option, Some, None, length, sym, ap, ◌∙◌, subst}
 use Rattle.std.specs.Prelude.{pos, ◌≤ℤ◌}
-use Rattle.std.specs.Option.{option_and_then}
+use Rattle.std.specs.Option.{option_map, option_and_then}
 use Rattle.oct_def.specs.Bound.{top_limit}
 use Rattle.oct_def.specs.Table.{Matrix, table}
 use Rattle.oct_def.specs.Matrix.{IsMatrix, IsEvenMatrix}
 use Rattle.oct_def.specs.Tight.{tight}
-use Rattle.oct_def.specs.Octagon.{Octagon, IsOctagon, IsValueOver, top_value, top_matrix, tight_value}
-use Rattle.oct_def.proofs.Lattice.{octagon-top}
+use Rattle.oct_def.specs.Octagon.{Octagon, IsOctagon, IsValueOver, bottom_value, top_value, top_matrix, tight_value, on_either, on_both, join_matrix, join_value, widen_matrix, widen_value, narrow_matrix, narrow_value}
+use Rattle.oct_def.proofs.Lattice.{octagon-top, octagon-join, octagon-widen, octagon-narrow}
 use Rattle.oct_def.proofs.Values.{value-tight}
 use Rattle.spl_core.specs.Expression.{Expression, Number, Variable, Add}
-use Rattle.transfer_def.specs.Assign.{then_do, equated, renamed_option, assigned, assign_value}
+use Rattle.transfer_def.specs.Dimensions.{moved}
+use Rattle.transfer_def.specs.Assign.{equated, assigned, assign_value}
 use Rattle.transfer_def.specs.Special.{constant_entry, offset_entry}
 use Rattle.transfer_def.proofs.Expressions.{equated-number, equated-variable, equated-plus}
 use Rattle.transfer_def.proofs.Values.{value-assigned}
@@ -36,9 +37,9 @@ top_is n m v e h = h ∙ ap (λ t. octagon_of n (Some t)) e
 
 -- ---- the tight closure
 
-pub close_bottom : (d : ℕ) (v : Octagon) → octagon_of d None ≡ v → octagon_of d None ≡ tight_value v
-unfolding tight_value
-close_bottom d v e = ap (λ (t : Octagon). octagon_of t.dims (option_and_then tight t.matrix)) e
+pub close_bottom : (d : ℕ) (v w : Octagon) → octagon_of d None ≡ v → w ≡ bottom_value d → w ≡ tight_value v
+unfolding tight_value bottom_value
+close_bottom d v w e h = h ∙ ap (λ (t : Octagon). octagon_of t.dims (option_and_then tight t.matrix)) e
 
 pub close_value : (d : ℕ) (m : Matrix) (r : Option Matrix) → IsEvenMatrix d m → r ≡ tight m → IsValueOver d r
 close_value d m r h e = subst (IsValueOver d) (sym e) (value-tight d m h.matrix)
@@ -47,29 +48,81 @@ pub close_is : (d : ℕ) (m : Matrix) (r : Option Matrix) (v w : Octagon) → oc
 unfolding tight_value
 close_is d m r v w e t h = h ∙ ap (octagon_of d) t ∙ ap (λ (u : Octagon). octagon_of u.dims (option_and_then tight u.matrix)) e
 
+-- ---- the lattice
+
+-- two values that are matrices over as many variables have matrices of one size
+pub same_rows : (d e : ℕ) (m n : Matrix) (a b : Octagon) → octagon_of d (Some m) ≡ a → octagon_of e (Some n) ≡ b → a.dims ≡ b.dims → IsEvenMatrix d m → IsEvenMatrix e n → length n ≡ length m
+same_rows d e m n a b ea eb h hm hn =
+    hn.matrix.rows ∙ ap (λ k. 2 * k) (ap (λ (t : Octagon). t.dims) eb ∙ sym h ∙ sym (ap (λ (t : Octagon). t.dims) ea)) ∙ sym hm.matrix.rows
+
+-- what an operation makes of Bottom and another value, of a matrix and Bottom, and of two matrices
+pub either_first : (f : Matrix → Matrix → Matrix) (d : ℕ) (a b v : Octagon) → octagon_of d None ≡ a → a.dims ≡ b.dims → v ≡ b → v ≡ octagon_of a.dims (on_either f a.matrix b.matrix)
+either_first f d a b v ea h e =
+    e ∙ ap (λ k. octagon_of k b.matrix) (sym h ∙ sym (ap (λ (t : Octagon). t.dims) ea)) ∙ ap (λ (t : Octagon). octagon_of t.dims (on_either f t.matrix b.matrix)) ea
+
+pub either_second : (f : Matrix → Matrix → Matrix) (d e : ℕ) (m : Matrix) (a b v : Octagon) → octagon_of d (Some m) ≡ a → octagon_of e None ≡ b → v ≡ a → v ≡ octagon_of a.dims (on_either f a.matrix b.matrix)
+either_second f d e m a b v ea eb h =
+    h ∙ sym ea ∙ ap (λ (t : Octagon). octagon_of d (on_either f (Some m) t.matrix)) eb ∙ ap (λ (t : Octagon). octagon_of t.dims (on_either f t.matrix b.matrix)) ea
+
+pub either_matrix : (f : Matrix → Matrix → Matrix) (d e : ℕ) (m n r : Matrix) (a b v : Octagon) → octagon_of d (Some m) ≡ a → octagon_of e (Some n) ≡ b → r ≡ f m n → v ≡ octagon_of d (Some r) → v ≡ octagon_of a.dims (on_either f a.matrix b.matrix)
+either_matrix f d e m n r a b v ea eb er h =
+    h ∙ ap (λ t. octagon_of d (Some t)) er ∙ ap (λ (t : Octagon). octagon_of d (on_either f (Some m) t.matrix)) eb ∙ ap (λ (t : Octagon). octagon_of t.dims (on_either f t.matrix b.matrix)) ea
+
+pub both_matrix : (f : Matrix → Matrix → Matrix) (d e : ℕ) (m n r : Matrix) (a b v : Octagon) → octagon_of d (Some m) ≡ a → octagon_of e (Some n) ≡ b → r ≡ f m n → v ≡ octagon_of d (Some r) → v ≡ octagon_of a.dims (on_both f a.matrix b.matrix)
+both_matrix f d e m n r a b v ea eb er h =
+    h ∙ ap (λ t. octagon_of d (Some t)) er ∙ ap (λ (t : Octagon). octagon_of d (on_both f (Some m) t.matrix)) eb ∙ ap (λ (t : Octagon). octagon_of t.dims (on_both f t.matrix b.matrix)) ea
+
+pub both_first : (f : Matrix → Matrix → Matrix) (d : ℕ) (a b v : Octagon) → octagon_of d None ≡ a → v ≡ bottom_value d → v ≡ octagon_of a.dims (on_both f a.matrix b.matrix)
+unfolding bottom_value
+both_first f d a b v ea h = h ∙ ap (λ (t : Octagon). octagon_of t.dims (on_both f t.matrix b.matrix)) ea
+
+pub both_second : (f : Matrix → Matrix → Matrix) (d e : ℕ) (m : Matrix) (a b v : Octagon) → octagon_of d (Some m) ≡ a → octagon_of e None ≡ b → v ≡ bottom_value d → v ≡ octagon_of a.dims (on_both f a.matrix b.matrix)
+unfolding bottom_value
+both_second f d e m a b v ea eb h =
+    h ∙ ap (λ (t : Octagon). octagon_of d (on_both f (Some m) t.matrix)) eb ∙ ap (λ (t : Octagon). octagon_of t.dims (on_both f t.matrix b.matrix)) ea
+
+-- such matrices are values
+same_dims : (d e : ℕ) (n : Matrix) (a b : Octagon) (m : Matrix) → octagon_of d (Some m) ≡ a → octagon_of e (Some n) ≡ b → a.dims ≡ b.dims → d ≡ e
+same_dims d e n a b m ea eb h = ap (λ (t : Octagon). t.dims) ea ∙ h ∙ sym (ap (λ (t : Octagon). t.dims) eb)
+
+pub join_even : (d e : ℕ) (m n r : Matrix) (a b : Octagon) → octagon_of d (Some m) ≡ a → octagon_of e (Some n) ≡ b → a.dims ≡ b.dims → IsEvenMatrix d m → IsEvenMatrix e n → r ≡ join_matrix m n → IsEvenMatrix d r
+unfolding join_value
+join_even d e m n r a b ea eb h hm hn er =
+    subst (IsEvenMatrix d) (sym er) (octagon-join (octagon_of d (Some m)) (octagon_of e (Some n)) hm hn (same_dims d e n a b m ea eb h))
+
+pub widen_even : (d e : ℕ) (m n r : Matrix) (a b : Octagon) → octagon_of d (Some m) ≡ a → octagon_of e (Some n) ≡ b → a.dims ≡ b.dims → IsEvenMatrix d m → IsEvenMatrix e n → r ≡ widen_matrix m n → IsEvenMatrix d r
+unfolding widen_value
+widen_even d e m n r a b ea eb h hm hn er =
+    subst (IsEvenMatrix d) (sym er) (octagon-widen (octagon_of d (Some m)) (octagon_of e (Some n)) hm hn (same_dims d e n a b m ea eb h))
+
+pub narrow_even : (d e : ℕ) (m n r : Matrix) (a b : Octagon) → octagon_of d (Some m) ≡ a → octagon_of e (Some n) ≡ b → a.dims ≡ b.dims → IsEvenMatrix d m → IsEvenMatrix e n → r ≡ narrow_matrix m n → IsEvenMatrix d r
+unfolding narrow_value
+narrow_even d e m n r a b ea eb h hm hn er =
+    subst (IsEvenMatrix d) (sym er) (octagon-narrow (octagon_of d (Some m)) (octagon_of e (Some n)) hm hn (same_dims d e n a b m ea eb h))
+
 -- ---- assignments
 
 pub assign_bottom : (x d : ℕ) (e : Expression) (v : Octagon) → octagon_of d None ≡ v → octagon_of d None ≡ assign_value x e v
 unfolding assign_value
-assign_bottom x d e v h = ap (λ (t : Octagon). octagon_of t.dims (then_do t.matrix (assigned t.dims x e))) h
+assign_bottom x d e v h = ap (λ (t : Octagon). octagon_of t.dims (option_and_then (assigned t.dims x e) t.matrix)) h
 
 pub assign_kept : (x d : ℕ) (e : Expression) (m : Matrix) (r : Option Matrix) → IsEvenMatrix d m → r ≡ assigned d x e m → IsValueOver d r
 assign_kept x d e m r h a = subst (IsValueOver d) (sym a) (value-assigned d x e m h)
 
 pub assign_is : (x d : ℕ) (e : Expression) (m : Matrix) (r : Option Matrix) (v w : Octagon) → octagon_of d (Some m) ≡ v → r ≡ assigned d x e m → w ≡ octagon_of d r → w ≡ assign_value x e v
 unfolding assign_value
-assign_is x d e m r v w h a k = k ∙ ap (octagon_of d) a ∙ ap (λ (t : Octagon). octagon_of t.dims (then_do t.matrix (assigned t.dims x e))) h
+assign_is x d e m r v w h a k = k ∙ ap (octagon_of d) a ∙ ap (λ (t : Octagon). octagon_of t.dims (option_and_then (assigned t.dims x e) t.matrix)) h
 
 -- an assignment closes the equated matrix
-assigned_by : (n x : ℕ) (e : Expression) (m q : Matrix) (r : Option Matrix) → equated n e m ≡ Some q → r ≡ renamed_option n x (tight q) → r ≡ assigned n x e m
+assigned_by : (n x : ℕ) (e : Expression) (m q : Matrix) (r : Option Matrix) → equated n e m ≡ Some q → r ≡ option_map (moved n (x ∷ [])) (tight q) → r ≡ assigned n x e m
 unfolding assigned
-assigned_by n x e m q r h k = k ∙ sym (ap (λ t. renamed_option n x (then_do t tight)) h)
+assigned_by n x e m q r h k = k ∙ sym (ap (λ t. option_map (moved n (x ∷ [])) (option_and_then tight t)) h)
 
-pub number_assigned : (n x c : ℕ) (m q : Matrix) (r : Option Matrix) → pos c ≤ℤ top_limit → q ≡ table (2 * (n + 1)) (constant_entry n (pos c) m) → r ≡ renamed_option n x (tight q) → r ≡ assigned n x (Number c) m
+pub number_assigned : (n x c : ℕ) (m q : Matrix) (r : Option Matrix) → pos c ≤ℤ top_limit → q ≡ table (2 * (n + 1)) (constant_entry n (pos c) m) → r ≡ option_map (moved n (x ∷ [])) (tight q) → r ≡ assigned n x (Number c) m
 number_assigned n x c m q r l e k = assigned_by n x (Number c) m q r (equated-number n c m l ∙ ap Some (sym e)) k
 
-pub copy_assigned : (n x y : ℕ) (m q : Matrix) (r : Option Matrix) → y < n → IsMatrix n m → q ≡ table (2 * (n + 1)) (offset_entry n y (pos 0) m) → r ≡ renamed_option n x (tight q) → r ≡ assigned n x (Variable y) m
+pub copy_assigned : (n x y : ℕ) (m q : Matrix) (r : Option Matrix) → y < n → IsMatrix n m → q ≡ table (2 * (n + 1)) (offset_entry n y (pos 0) m) → r ≡ option_map (moved n (x ∷ [])) (tight q) → r ≡ assigned n x (Variable y) m
 copy_assigned n x y m q r l v e k = assigned_by n x (Variable y) m q r (equated-variable n y m l v ∙ ap Some (sym e)) k
 
-pub sum_assigned : (n x y c : ℕ) (m q : Matrix) (r : Option Matrix) → y < n → pos c ≤ℤ top_limit → IsMatrix n m → q ≡ table (2 * (n + 1)) (offset_entry n y (pos c) m) → r ≡ renamed_option n x (tight q) → r ≡ assigned n x (Add (Variable y) (Number c)) m
+pub sum_assigned : (n x y c : ℕ) (m q : Matrix) (r : Option Matrix) → y < n → pos c ≤ℤ top_limit → IsMatrix n m → q ≡ table (2 * (n + 1)) (offset_entry n y (pos c) m) → r ≡ option_map (moved n (x ∷ [])) (tight q) → r ≡ assigned n x (Add (Variable y) (Number c)) m
 sum_assigned n x y c m q r l t v e k = assigned_by n x (Add (Variable y) (Number c)) m q r (equated-plus n y c m l t v ∙ ap Some (sym e)) k

@@ -1,58 +1,18 @@
-// The plain domain and its values.
+// The plain domain: its calls are those of its values.
 ghost use Rattle.std.specs.Prelude.{◌≡◌, ℕ, ◌+◌, ◌*◌, ◌^◌, ◌<◌, ◌≤◌, IfOk, IfSome, IsSome, is_none};
 ghost use Rattle.oct_def.specs.Bound.{bound_of, word_of};
 ghost use Rattle.oct_def.specs.Table.{at};
-ghost use Rattle.oct_def.specs.Octagon.{IsOctagon, IsValueOver, top_value, tight_value};
+ghost use Rattle.oct_def.specs.Octagon.{IsOctagon, top_value, tight_value};
 ghost use Rattle.spl_core.specs.Expression.{Number, Variable, Add};
 ghost use Rattle.transfer_def.specs.Assign.{assign_value};
-ghost use Rattle.full_oct.specs.Value.{octagon_of};
 
-use crate::matrix::FullMatrix;
+use crate::value::{FullValue, shared};
 use oct_def::NoMemory;
 use std::alloc::Global;
-use std::marker::Model;
-use std::rc::Rc;
-
-/// A value over n variables, at most 256: Bottom, or a full matrix of 32 n^2 bytes that other values may share.
-#[derive(Drop)]
-pub struct FullValue {
-    dims: u32,
-    matrix: Option<Rc<FullMatrix>>,
-}
-
-impl Model for FullValue {
-    ghost use Rattle.std.specs.Option.{option_map};
-    ghost use Rattle.oct_def.specs.Octagon.{Octagon};
-    ghost use Rattle.full_oct.specs.Value.{octagon_of, IsKept};
-
-    ghost Value = { Octagon };
-
-    ghost view = { λ v. octagon_of v.dims (option_map (λ r. r.value) v.matrix) };
-
-    ghost invariant = { λ v. IsKept v.dims (option_map (λ r. r.value) v.matrix) };
-}
 
 /// The plain domain. It keeps nothing between calls.
 #[derive(Clone, Copy, Debug)]
 pub struct FullDomain;
-
-// The value of a matrix, or Bottom. It takes the memory of one shared block.
-fn shared(alloc: Global, dims: u32, matrix: Option<FullMatrix>) -> Result<FullValue, NoMemory>
-    requires small { dims ≤ 256 }
-    requires value { IsValueOver dims matrix }
-    ensures value { IfOk result (λ v. v ≡ octagon_of dims matrix) }
-{
-    match matrix {
-        None => Ok(FullValue { dims, matrix: None }),
-        Some(m) => {
-            let m = Rc::new(alloc, m)?;
-            Ok(FullValue {
-                dims,
-                matrix: Some(m),
-            })
-        }
-    }
-}
 
 impl FullDomain {
     /// The domain. It takes no memory.
@@ -65,7 +25,7 @@ impl FullDomain {
         ensures value { IsOctagon v.now }
         ensures small { v.now.dims ≤ 256 }
     {
-        let _ = &v.dims;
+        v.known();
     }
 
     /// The value over `dims` variables without bounds, in memory of its own.
@@ -74,8 +34,7 @@ impl FullDomain {
         ensures value { IfOk result (λ v. v ≡ top_value dims) }
         ensures dims { IfOk result (λ v. v.dims ≡ dims) }
     {
-        let m = FullMatrix::top(alloc, dims as usize)?;
-        let v = shared(alloc, dims, Some(m))?;
+        let v = FullValue::top(alloc, dims)?;
         Ok(v)
     }
 
@@ -83,18 +42,15 @@ impl FullDomain {
     pub fn share(&mut self, v: &FullValue) -> Result<FullValue, NoMemory>
         ensures same { IfOk result (λ w. w ≡ v.now) }
     {
-        let matrix = v.matrix.clone()?;
-        Ok(FullValue {
-            dims: v.dims,
-            matrix,
-        })
+        let w = v.share()?;
+        Ok(w)
     }
 
     /// Whether the value is Bottom.
     pub fn is_bottom(&self, v: &FullValue) -> bool
         ensures { result ≡ is_none v.now.matrix }
     {
-        v.matrix.is_none()
+        v.is_bottom()
     }
 
     /// The word at row i and column j, which bounds `V_j - V_i`: `NONE`, or from `-LIMIT` to `LIMIT`.
@@ -105,10 +61,7 @@ impl FullDomain {
         ensures word { IfSome v.now.matrix (λ m. result ≡ word_of (at m i j)) }
         ensures bound { IfSome v.now.matrix (λ m. bound_of result ≡ at m i j) }
     {
-        match &v.matrix {
-            None => unreachable!(),
-            Some(m) => m.word(i as usize, j as usize),
-        }
+        v.entry(i, j)
     }
 
     /// The tight closure. For n variables it takes time of order n^3 and the memory of at most three matrices at a time.
@@ -116,17 +69,8 @@ impl FullDomain {
         ensures value { IfOk result (λ w. w ≡ tight_value v.now) }
         ensures dims { IfOk result (λ w. w.dims ≡ v.now.dims) }
     {
-        match &v.matrix {
-            None => Ok(FullValue {
-                dims: v.dims,
-                matrix: None,
-            }),
-            Some(m) => {
-                let closed = m.closed(alloc)?;
-                let w = shared(alloc, v.dims, closed)?;
-                Ok(w)
-            }
-        }
+        let w = v.closed(alloc)?;
+        Ok(w)
     }
 
     /// The value after the target became a number. It closes n + 1 variables.

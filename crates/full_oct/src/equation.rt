@@ -1,12 +1,13 @@
 // A matrix with one more variable that equals a number, or an old variable plus a number: the matrix that an assignment
 // closes. The new variable is the last one.
-ghost use Rattle.std.specs.Prelude.{◌≡◌, ℕ, ◌+◌, ◌*◌, ◌/◌, ◌^◌, ◌&&◌, nat_eq, nat_lt, ◌<◌, ◌≤◌, IfOk, length, ℤ, ◌+ℤ◌, neg_ℤ, ◌≤ℤ◌};
+ghost use Rattle.std.specs.Prelude.{[], ◌∷◌, ◌≡◌, ℕ, ◌+◌, ◌*◌, ◌/◌, ◌^◌, ◌&&◌, nat_eq, nat_lt, ◌<◌, ◌≤◌, IfOk, length, ℤ, ◌+ℤ◌, neg_ℤ, ◌≤ℤ◌};
 ghost use Rattle.oct_def.specs.Bound.{bound_of, half, clamp as clamp_of, least, low_limit, top_limit};
 ghost use Rattle.oct_def.specs.Table.{table};
 ghost use Rattle.oct_def.specs.Tight.{tight};
 ghost use Rattle.oct_def.specs.Octagon.{top_entry, top_matrix};
 ghost use Rattle.interval_form.specs.Interval.{wider};
-ghost use Rattle.transfer_def.specs.Assign.{extended_entry, place_of, renamed_entry, renamed, renamed_option};
+ghost use Rattle.std.specs.Option.{option_map};
+ghost use Rattle.transfer_def.specs.Dimensions.{extended_entry, moved_dimension, moved_entry, moved};
 ghost use Rattle.transfer_def.specs.Special.{twice_entry, sum_entry, constant_entry, twice_plus, lower_bound, upper_bound, offset_entry};
 
 use crate::matrix::FullMatrix;
@@ -102,7 +103,7 @@ fn minus_twice(number: i64) -> i64
 // The signed dimension that stands at i once the variable t took the place of x.
 fn place(t: usize, x: usize, i: usize) -> usize
     requires small { t ≤ 256 }
-    ensures { result ≡ place_of t x i }
+    ensures { result ≡ moved_dimension t (x ∷ []) i }
 {
     if i / 2 == x { 2 * t + i % 2 } else { i }
 }
@@ -262,7 +263,7 @@ impl FullMatrix {
         requires rows { length self.now ≡ 2 * (dims + 1) }
         requires row { i < 2 * dims }
         requires column { j < 2 * dims }
-        ensures { bound_of result ≡ renamed_entry dims x self.now i j }
+        ensures { bound_of result ≡ moved_entry dims (x ∷ []) self.now i j }
     {
         self.word(place(dims, x, i), place(dims, x, j))
     }
@@ -271,7 +272,7 @@ impl FullMatrix {
     fn renamed(&self, alloc: Global, dims: usize, x: usize) -> Result<FullMatrix, NoMemory>
         requires small { dims ≤ 256 }
         requires rows { length self.now ≡ 2 * (dims + 1) }
-        ensures renamed { IfOk result (λ m. m ≡ renamed dims x self.now) }
+        ensures renamed { IfOk result (λ m. m ≡ moved dims (x ∷ []) self.now) }
     {
         let size = 2 * dims;
         let m = FullMatrix::tabulated(alloc, size, |i, j| self.renamed_word(dims, x, i, j))?;
@@ -287,7 +288,7 @@ impl FullMatrix {
     ) -> Result<Option<FullMatrix>, NoMemory>
         requires small { dims ≤ 256 }
         requires rows { length self.now ≡ 2 * (dims + 1) }
-        ensures assigned { IfOk result (λ m. m ≡ renamed_option dims x (tight self.now)) }
+        ensures assigned { IfOk result (λ m. m ≡ option_map (moved dims (x ∷ [])) (tight self.now)) }
     {
         match self.closed(alloc)? {
             None => Ok(None),

@@ -5,9 +5,12 @@ mod assignment;
 mod closing;
 mod domain;
 mod equation;
+mod lattice;
 mod matrix;
+mod value;
 
-pub use domain::{FullDomain, FullValue};
+pub use domain::FullDomain;
+pub use value::FullValue;
 
 #[cfg(test)]
 mod tests;

@@ -16,8 +16,9 @@ pub use files::{Failed, Files, OpenFault, ReadAllError, read_all};
 pub use host::{HostFiles, HostSink};
 pub use mem_files::MemFiles;
 pub use mem_sink::MemSink;
+pub use memory::NoMemory;
 pub use sink::{Sink, WriteFault, write_all};
-pub use words::{NoMemory, Words};
+pub use words::Words;
 
 #[cfg(test)]
 mod tests;

@@ -111,11 +111,9 @@ impl MemFiles {
         ensures stored { OnOk result (self.new ≡ with_file self.old name.now bytes.now) }
         ensures kept { OnErr result (self.new ≡ self.old) }
     {
-        let name = Vec::from_slice(self.alloc, name).map_err(|_| NoMemory)?;
-        let bytes = Vec::from_slice(self.alloc, bytes).map_err(|_| NoMemory)?;
-        self.entries
-            .push(Entry { name, bytes })
-            .map_err(|_| NoMemory)?;
+        let name = Vec::from_slice(self.alloc, name)?;
+        let bytes = Vec::from_slice(self.alloc, bytes)?;
+        self.entries.push(Entry { name, bytes })?;
         Ok(())
     }
 
@@ -124,7 +122,7 @@ impl MemFiles {
         ensures listed { OnOk result (self.new ≡ with_failing self.old call) }
         ensures kept { OnErr result (self.new ≡ self.old) }
     {
-        self.failing.push(call).map_err(|_| NoMemory)?;
+        self.failing.push(call)?;
         Ok(())
     }
 }

@@ -46,7 +46,7 @@ impl MemSink {
         requires { 1 ≤ piece }
         ensures { IfOk result (λ sink. sink ≡ no_bytes piece room) }
     {
-        let bytes = Vec::with_capacity(alloc, room).map_err(|_| NoMemory)?;
+        let bytes = Vec::with_capacity(alloc, room)?;
         Ok(MemSink {
             bytes,
             piece,
@@ -62,7 +62,7 @@ impl MemSink {
         ensures listed { OnOk result (self.new ≡ with_failing_write self.old call) }
         ensures kept { OnErr result (self.new ≡ self.old) }
     {
-        self.failing.push(call).map_err(|_| NoMemory)?;
+        self.failing.push(call)?;
         Ok(())
     }
 

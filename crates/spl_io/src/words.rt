@@ -1,12 +1,9 @@
 ghost use Rattle.std.specs.Prelude.{◌≡◌, ◌<◌, ◌++◌, ◌∷◌, [], List, ℕ, length, map, OnOk, OnErr};
 ghost use Rattle.spl_io.specs.Words.{name_at};
 
+use crate::NoMemory;
 use std::alloc::Global;
 use std::marker::Model;
-
-/// Memory was wanting.
-#[derive(Clone, Copy, Debug, PartialEq, Eq)]
-pub struct NoMemory;
 
 /// A list of byte lists, as the words of a command line. A word need not be UTF-8.
 #[derive(Drop)]
@@ -37,8 +34,8 @@ impl Words {
         ensures added { OnOk result (self.new ≡ self.old ++ word.now ∷ []) }
         ensures kept { OnErr result (self.new ≡ self.old) }
     {
-        let copy = Vec::from_slice(self.alloc, word).map_err(|_| NoMemory)?;
-        self.words.push(copy).map_err(|_| NoMemory)?;
+        let copy = Vec::from_slice(self.alloc, word)?;
+        self.words.push(copy)?;
         Ok(())
     }
 

@@ -5,9 +5,9 @@ use Rattle.oct_def.specs.Table.{Matrix, at}
 use Rattle.oct_def.specs.Matrix.{opposite}
 use Rattle.oct_def.proofs.Orders.{least_none}
 use Rattle.interval_form.specs.Interval.{wider}
-use Rattle.transfer_def.specs.Assign.{extended_entry}
+use Rattle.transfer_def.specs.Dimensions.{extended_entry}
 use Rattle.transfer_def.specs.Special.{twice_entry, sum_entry, constant_entry, twice_plus, lower_bound, upper_bound, below_entry, above_entry, offset_entry}
-use Rattle.transfer_def.proofs.Values.{extended_entry-inner, extended_entry-outer, top_entry-same, top_entry-other}
+use Rattle.transfer_def.proofs.Dimensions.{extended_entry-inner, extended_entry-outer, top_entry-same, top_entry-other}
 
 -- ---- one bound at its places
 

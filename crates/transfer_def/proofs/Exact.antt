@@ -3,6 +3,7 @@ use Rattle.std.proofs.Common.{◌≡◌, ◌⊎◌, ◌≢◌, ℕ, suc, ◌+◌
 use Rattle.std.proofs.lemmas.Int.{ints}
 use Rattle.std.proofs.lemmas.Bool.{cases_eq}
 use Rattle.std.proofs.lemmas.List.{get_or_append_left, get_or_at}
+use Rattle.std.specs.Option.{option_and_then}
 use Rattle.oct_def.specs.Bound.{Bound, InRange, clamp, clamped, plus, half, least}
 use Rattle.oct_def.specs.Table.{Matrix, table, at}
 use Rattle.oct_def.specs.Matrix.{IsSquare, IsMatrix}
@@ -18,7 +19,8 @@ use Rattle.interval_form.specs.FormBounds.{rest_bound, pair_bound, unary_bound, 
 use Rattle.interval_form.proofs.Forms.{coefficient-form_of, coefficient-form_of_past, constant-form_of}
 use Rattle.interval_form.proofs.Bounding.{range_at-ranges_of, length-ranges_of}
 use Rattle.interval_form.proofs.Exact.{sum_of-nothing, nothing-sum_of, low-product_unbounded, low-product_minus_unbounded, low-product_one, low-product_minus, pair_bound-one, unary_bound-one, unary_bound-sum}
-use Rattle.transfer_def.specs.Assign.{then_do, extended_entry, extended, extended_ranges, form_minus_new, new_minus_form, equated}
+use Rattle.transfer_def.specs.Dimensions.{extended_entry, extended}
+use Rattle.transfer_def.specs.Assign.{extended_ranges, form_minus_new, new_minus_form, equated}
 use Rattle.transfer_def.specs.Special.{twice_entry, sum_entry, constant_entry, twice_plus, lower_bound, upper_bound, below_entry, above_entry, offset_entry}
 use Rattle.transfer_def.proofs.Sound.{length-extended_ranges}
 use Rattle.transfer_def.proofs.Pairs.{form_entry-single, form_entry-pair}
@@ -254,11 +256,11 @@ square-least_matrix : (a b : Matrix) → IsSquare (least_matrix a b)
 unfolding least_matrix
 square-least_matrix a b = square-table (length a) (least_entry a b)
 
-length-extended : (n : ℕ) (m : Matrix) → length (extended n m) ≡ 2 * (n + 1)
+length-extended : (n : ℕ) (m : Matrix) → length (extended n 1 m) ≡ 2 * (n + 1)
 unfolding extended
 length-extended n m = length-table (2 * (n + 1)) (extended_entry n m)
 
-at-extended : (n : ℕ) (m : Matrix) (i j : ℕ) → i < 2 * (n + 1) → j < 2 * (n + 1) → at (extended n m) i j ≡ extended_entry n m i j
+at-extended : (n : ℕ) (m : Matrix) (i j : ℕ) → i < 2 * (n + 1) → j < 2 * (n + 1) → at (extended n 1 m) i j ≡ extended_entry n m i j
 unfolding extended
 at-extended n m i j p q = at-table (2 * (n + 1)) (extended_entry n m) i j p q
 
@@ -274,21 +276,21 @@ bounded-some ranges f m e = rw e
 two_bounds : (n : ℕ) (m : Matrix) (ranges : List Interval) (f g : Form) (entry : ℕ → ℕ → Bound) → length ranges ≡ suc n
     → (form_value ranges f).low ≡ None → (form_value ranges g).low ≡ None
     → ((i j : ℕ) → i < 2 * (n + 1) → j < 2 * (n + 1) → least (least (extended_entry n m i j) (form_entry ranges f i j)) (form_entry ranges g i j) ≡ entry i j)
-    → then_do (bounded ranges f (extended n m)) (bounded ranges g) ≡ Some (table (2 * (n + 1)) entry)
+    → option_and_then (bounded ranges g) (bounded ranges f (extended n 1 m)) ≡ Some (table (2 * (n + 1)) entry)
 two_bounds n m ranges f g entry size p q h =
-    let first = least_matrix (extended n m) (form_matrix ranges f) in
+    let first = least_matrix (extended n 1 m) (form_matrix ranges f) in
     let second = least_matrix first (form_matrix ranges g) in
-    let length_first : length first ≡ 2 * (n + 1) = length-least_matrix (extended n m) (form_matrix ranges f) ∙ length-extended n m in
+    let length_first : length first ≡ 2 * (n + 1) = length-least_matrix (extended n 1 m) (form_matrix ranges f) ∙ length-extended n m in
     let length_second : length second ≡ 2 * (n + 1) = length-least_matrix first (form_matrix ranges g) ∙ length_first in
     let same : second ≡ table (2 * (n + 1)) entry =
     is-table second (2 * (n + 1)) entry (square-least_matrix first (form_matrix ranges g)) length_second (λ i j li lj.
     at-least_matrix first (form_matrix ranges g) i j (omega arith) (omega arith)
     ∙ ap₂ least
-    (at-least_matrix (extended n m) (form_matrix ranges f) i j (omega (arith, length-extended n m)) (omega (arith, length-extended n m))
+    (at-least_matrix (extended n 1 m) (form_matrix ranges f) i j (omega (arith, length-extended n m)) (omega (arith, length-extended n m))
     ∙ ap₂ least (at-extended n m i j li lj) (at-form_matrix ranges f i j (omega arith) (omega arith)))
     (at-form_matrix ranges g i j (omega arith) (omega arith))
     ∙ h i j li lj) in
-    rw (bounded-some ranges f (extended n m) p) (bounded-some ranges g first q ∙ ap Some same)
+    rw (bounded-some ranges f (extended n 1 m) p) (bounded-some ranges g first q ∙ ap Some same)
 
 grown-extended : (n : ℕ) (m : Matrix) → IsGrown n (extended_ranges n m)
 unfolding extended_ranges range_at

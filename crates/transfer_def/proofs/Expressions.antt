@@ -15,7 +15,7 @@ use Rattle.interval_form.specs.Linear.{no_terms, constant_form, settled, negated
 use Rattle.interval_form.proofs.Forms.{coefficient-form_of, coefficient-form_of_past, constant-form_of}
 use Rattle.interval_form.proofs.Bounding.{length-ranges_of}
 use Rattle.interval_form.proofs.Exact.{clamped_low-in_range, outward-point}
-use Rattle.transfer_def.specs.Assign.{equated, assigned, renamed_option}
+use Rattle.transfer_def.specs.Assign.{equated}
 use Rattle.transfer_def.specs.Special.{constant_entry, offset_entry}
 use Rattle.transfer_def.proofs.Exact.{IsConstantForm, IsOffsetForm, settled-points, point_term, variable-at, variable-other, variable-constant, equated-constant, equated-offset}
 
@@ -153,27 +153,3 @@ offset-minus ranges y c l h =
 pub equated-minus : (n y c : ℕ) (m : Matrix) → y < n → pos c ≤ℤ top_limit → IsMatrix n m → equated n (Sub (Variable y) (Number c)) m ≡ Some (table (2 * (n + 1)) (offset_entry n y (neg_ℤ (pos c)) m))
 equated-minus n y c m l h v =
     equated-offset n y (neg_ℤ (pos c)) (Sub (Variable y) (Number c)) m l (outward-negative c h) v (offset-minus (ranges_of n m) y c (omega (arith, length-ranges_of n m)) h)
-
--- ---- and what the assignments give
-
-assigned_by : (n x : ℕ) (e : Expression) (m b : Matrix) → equated n e m ≡ Some b → assigned n x e m ≡ renamed_option n x (tight b)
-unfolding assigned
-assigned_by n x e m b h = rw h
-
-pub assigned-number : (n x c : ℕ) (m : Matrix) → pos c ≤ℤ top_limit
-    → assigned n x (Number c) m ≡ renamed_option n x (tight (table (2 * (n + 1)) (constant_entry n (pos c) m)))
-assigned-number n x c m h = assigned_by n x (Number c) m (table (2 * (n + 1)) (constant_entry n (pos c) m)) (equated-number n c m h)
-
-pub assigned-variable : (n x y : ℕ) (m : Matrix) → y < n → IsMatrix n m
-    → assigned n x (Variable y) m ≡ renamed_option n x (tight (table (2 * (n + 1)) (offset_entry n y (pos 0) m)))
-assigned-variable n x y m l v = assigned_by n x (Variable y) m (table (2 * (n + 1)) (offset_entry n y (pos 0) m)) (equated-variable n y m l v)
-
-pub assigned-plus : (n x y c : ℕ) (m : Matrix) → y < n → pos c ≤ℤ top_limit → IsMatrix n m
-    → assigned n x (Add (Variable y) (Number c)) m ≡ renamed_option n x (tight (table (2 * (n + 1)) (offset_entry n y (pos c) m)))
-assigned-plus n x y c m l h v =
-    assigned_by n x (Add (Variable y) (Number c)) m (table (2 * (n + 1)) (offset_entry n y (pos c) m)) (equated-plus n y c m l h v)
-
-pub assigned-minus : (n x y c : ℕ) (m : Matrix) → y < n → pos c ≤ℤ top_limit → IsMatrix n m
-    → assigned n x (Sub (Variable y) (Number c)) m ≡ renamed_option n x (tight (table (2 * (n + 1)) (offset_entry n y (neg_ℤ (pos c)) m)))
-assigned-minus n x y c m l h v =
-    assigned_by n x (Sub (Variable y) (Number c)) m (table (2 * (n + 1)) (offset_entry n y (neg_ℤ (pos c)) m)) (equated-minus n y c m l h v)

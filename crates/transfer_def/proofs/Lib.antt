@@ -1,4 +1,6 @@
+pub mod Lifts
 pub mod States
+pub mod Dimensions
 pub mod Sound
 pub mod Values
 pub mod Pairs
@@ -8,3 +10,6 @@ pub mod Expressions
 pub mod Worked
 pub mod Entries
 pub mod Tests
+pub mod Moves
+pub mod Enter
+pub mod Back

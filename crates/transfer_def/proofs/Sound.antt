@@ -1,5 +1,6 @@
 -- The successor of a state that meets a matrix meets the matrix after an assignment.
 use Rattle.std.proofs.Common.{◌≡◌, ◌⊎◌, ◌≢◌, ℕ, ◌+◌, ◌*◌, ◌/◌, ◌%◌, ◌<◌, ◌++◌, ◌∷◌, ◌||◌, ◌&&◌, Bool, true, false, cond, List, [], length, set, get_or, ℤ, pos, ◌+ℤ◌, ◌-ℤ◌, ◌*ℤ◌, ◌≤ℤ◌, Option, Some, None, refl, sym, ap, subst, length-set, inl, inr, ⊎_elim, arith, nat_eq, nat_lt, ◌∙◌, get_or-set_same, ltb-true, eqb-true, eq-eqb, ne_eqb, length-append, add-one}
+use Rattle.std.specs.Option.{option_and_then}
 use Rattle.std.proofs.lemmas.Int.{ints}
 use Rattle.std.proofs.lemmas.Bool.{eqb-false, or_parts, cases_eq}
 use Rattle.std.proofs.lemmas.List.{get_or_append_left, get_or_at}
@@ -19,36 +20,15 @@ use Rattle.interval_form.proofs.Intervals.{Holds-point}
 use Rattle.interval_form.proofs.Forms.{dropped, dropped-same, dropped-other, weighted_sum-same, coefficient_past}
 use Rattle.interval_form.proofs.Linear.{Reads-linear_form, Reads-variable_form, Reads-difference_form, length-linear_form}
 use Rattle.interval_form.proofs.Bounding.{in_ranges-ranges_of, length-ranges_of, meets-bounded}
-use Rattle.transfer_def.specs.Assign.{then_do, extended_entry, extended, extended_ranges, form_minus_new, new_minus_form, equated, place_of, renamed_entry, renamed, renamed_option, assigned, assign_value}
-use Rattle.transfer_def.specs.Copies.{Copy, copied_state, copy_value, AreOver}
-use Rattle.transfer_def.specs.Forget.{forgotten_entry, forgotten, forgotten_option, forget_value}
+use Rattle.spl_core.specs.Facts.{AreDistinct}
+use Rattle.transfer_def.specs.Dimensions.{extended, moved}
+use Rattle.transfer_def.specs.Assign.{extended_ranges, form_minus_new, new_minus_form, equated, assigned, assign_value}
+use Rattle.transfer_def.specs.Forget.{forgotten_entry, forgotten, forget_value}
+use Rattle.transfer_def.proofs.Lifts.{meets-and_then, meets-mapped}
+use Rattle.transfer_def.proofs.Dimensions.{within-top_entry, meets-extended, meets-moved}
 use Rattle.transfer_def.proofs.States.{grown, value_at-grown, value_at-grown_last, signed_value-same, signed_value-grown, signed_value-set_other, weighted_sum-grown}
 
-within-top_entry : (s : List ℤ) (i j : ℕ) → Within (difference s i j) (top_entry i j)
-unfolding top_entry
-within-top_entry s i j = by (nat_eq i j) refl
-  where
-    by : (b : Bool) → nat_eq i j ≡ b → Within (difference s i j) (cond b (Some (pos 0)) None)
-    by true e = let same = ap (signed_value s) (eqb-true i j e) in omega (arith, ints)
-    by false e = tt
-
--- ---- one more dimension
-
-within-extended_entry : (n : ℕ) (m : Matrix) (s : List ℤ) (y : ℤ) (i j : ℕ) → length s ≡ n → Meets s m → Within (difference (grown s y) i j) (extended_entry n m i j)
-unfolding extended_entry
-within-extended_entry n m s y i j e h = by (nat_lt i (2 * n)) (nat_lt j (2 * n)) refl refl
-  where
-    by : (b c : Bool) → nat_lt i (2 * n) ≡ b → nat_lt j (2 * n) ≡ c → Within (difference (grown s y) i j) (cond (b && c) (at m i j) (top_entry i j))
-    by true true p q =
-        let pi = ltb-true i (2 * n) p in
-        let pj = ltb-true j (2 * n) q in
-        rw (signed_value-grown s y i (omega arith), signed_value-grown s y j (omega arith)) (h.within i j)
-    by true false p q = within-top_entry (grown s y) i j
-    by false c p q = within-top_entry (grown s y) i j
-
-meets-extended : (n : ℕ) (m : Matrix) (s : List ℤ) (y : ℤ) → length s ≡ n → Meets s m → Meets (grown s y) (extended n m)
-unfolding extended
-meets-extended n m s y e h = meets-table (grown s y) (2 * (n + 1)) (extended_entry n m) (λ i j p q. within-extended_entry n m s y i j e h)
+-- ---- the ranges of one more variable
 
 pub length-extended_ranges : (n : ℕ) (m : Matrix) → length (extended_ranges n m) ≡ n + 1
 unfolding extended_ranges
@@ -117,10 +97,6 @@ Reads-new n m s y l =
     (subst (Reads (n + 1) (variable_form (n + 1) n) (grown s y)) (value_at-grown_last s y n l)
     (Reads-variable_form (n + 1) n (grown s y) (omega arith)))
 
-pub meets-then_do : (s : List ℤ) (v : Option Matrix) (go : Matrix → Option Matrix) → ((m : Matrix) → Meets s m → MeetsValue s (go m)) → MeetsValue s v → MeetsValue s (then_do v go)
-meets-then_do s None go f h = absurd h
-meets-then_do s (Some m) go f h = f m h
-
 pub meets-equated : (n : ℕ) (e : Expression) (m : Matrix) (s : List ℤ) → length s ≡ n → IsOver n e → Meets s m → MeetsValue (grown s (eval e s)) (equated n e m)
 unfolding equated form_minus_new new_minus_form
 meets-equated n e m s l o h =
@@ -134,70 +110,29 @@ meets-equated n e m s l o h =
     let var = variable_form (n + 1) n in
     let down = Reads-difference_form ranges form var t y y held value new in
     let back = Reads-difference_form ranges var form t y y held new value in
-    meets-then_do t (bounded ranges (difference_form ranges form var) (extended n m)) (bounded ranges (difference_form ranges var form))
+    meets-and_then t t (bounded ranges (difference_form ranges var form)) (bounded ranges (difference_form ranges form var) (extended n 1 m))
     (λ k g. meets-bounded ranges (difference_form ranges var form) k t (y -ℤ y) held back (no_difference y) g)
-    (meets-bounded ranges (difference_form ranges form var) (extended n m) t (y -ℤ y) held down (no_difference y) (meets-extended n m s y l h))
+    (meets-bounded ranges (difference_form ranges form var) (extended n 1 m) t (y -ℤ y) held down (no_difference y) (meets-extended n 1 m s (y ∷ []) l h))
 
--- ---- the last dimension takes the place of the target
+-- one target is distinct from all others
+one_target : (x : ℕ) → AreDistinct (x ∷ [])
+one_target x i j p q = absurd (omega arith)
 
-pub place_of-parity : (t x i : ℕ) → place_of t x i % 2 ≡ i % 2
-unfolding place_of
-place_of-parity t x i = by (nat_eq (i / 2) x)
-  where
-    by : (b : Bool) → cond b (2 * t + i % 2) i % 2 ≡ i % 2
-    by true = omega arith
-    by false = refl
-
-pub place_of-target : (t x i : ℕ) → i / 2 ≡ x → place_of t x i ≡ 2 * t + i % 2
-unfolding place_of
-place_of-target t x i e = rw (eq-eqb (i / 2) x e)
-
-pub place_of-other : (t x i : ℕ) → i / 2 ≢ x → place_of t x i ≡ i
-unfolding place_of
-place_of-other t x i e = rw (ne_eqb (i / 2) x e)
-
--- the new value of a signed dimension is the value that its place has in the grown state
-signed_value-renamed : (n x : ℕ) (s : List ℤ) (y : ℤ) (i : ℕ) → length s ≡ n → x < n → i < 2 * n → signed_value (grown s y) (place_of n x i) ≡ signed_value (set s x y) i
-signed_value-renamed n x s y i l h p = ⊎_elim same other (cases_eq (i / 2) x)
-  where
-    same : i / 2 ≡ x → signed_value (grown s y) (place_of n x i) ≡ signed_value (set s x y) i
-    same e =
-        let half : (2 * n + i % 2) / 2 ≡ n = omega arith in
-        let left : value_at (grown s y) ((2 * n + i % 2) / 2) ≡ y = rw half (value_at-grown_last s y n l) in
-        let inside : x < length s = omega arith in
-        let right : value_at (set s x y) (i / 2) ≡ y = rw e (get_or-set_same s x y (pos 0) inside) in
-        rw (place_of-target n x i e) (signed_value-same (grown s y) (set s x y) (2 * n + i % 2) i (omega arith) (left ∙ sym right))
-
-    other : i / 2 ≢ x → signed_value (grown s y) (place_of n x i) ≡ signed_value (set s x y) i
-    other e = rw (place_of-other n x i e) (signed_value-grown s y i (omega arith) ∙ sym (signed_value-set_other s x y i e))
-
-meets-renamed : (n x : ℕ) (s : List ℤ) (y : ℤ) (m : Matrix) → length s ≡ n → x < n → Meets (grown s y) m → Meets (set s x y) (renamed n x m)
-unfolding renamed renamed_entry
-meets-renamed n x s y m l h k =
-    meets-table (set s x y) (2 * n) (renamed_entry n x m) (λ i j p q.
-    rw (← signed_value-renamed n x s y i l h p, ← signed_value-renamed n x s y j l h q) (k.within (place_of n x i) (place_of n x j)))
-
-meets-renamed_option : (n x : ℕ) (s : List ℤ) (y : ℤ) (v : Option Matrix) → length s ≡ n → x < n → MeetsValue (grown s y) v → MeetsValue (set s x y) (renamed_option n x v)
-meets-renamed_option n x s y None l h k = absurd k
-meets-renamed_option n x s y (Some m) l h k = meets-renamed n x s y m l h k
-
-pub meets-assigned : (n x : ℕ) (e : Expression) (m : Matrix) (s : List ℤ) → length s ≡ n → x < n → IsOver n e → Meets s m → MeetsValue (set s x (eval e s)) (assigned n x e m)
+pub meets-assigned : (n x : ℕ) (e : Expression) (m : Matrix) (s : List ℤ) → length s ≡ n → IsOver n e → Meets s m → MeetsValue (set s x (eval e s)) (assigned n x e m)
 unfolding assigned
-meets-assigned n x e m s l h o k =
+meets-assigned n x e m s l o k =
     let y = eval e s in
-    meets-renamed_option n x s y (then_do (equated n e m) tight) l h
-    (meets-then_do (grown s y) (equated n e m) tight (λ b g. meets-tight (grown s y) b g) (meets-equated n e m s l o k))
+    let t = grown s y in
+    meets-mapped t (set s x y) (moved n (x ∷ [])) (option_and_then tight (equated n e m))
+    (λ b g. meets-moved n (x ∷ []) (y ∷ []) s b l refl (one_target x) g)
+    (meets-and_then t t tight (equated n e m) (λ b g. meets-tight t b g) (meets-equated n e m s l o k))
 
 -- ---- the laws
 
-pub meets-assign_value : (x : ℕ) (e : Expression) (v : Octagon) (s : List ℤ) → length s ≡ v.dims → x < v.dims → IsOver v.dims e → MeetsOctagon s v → MeetsOctagon (set s x (eval e s)) (assign_value x e v)
+pub meets-assign_value : (x : ℕ) (e : Expression) (v : Octagon) (s : List ℤ) → length s ≡ v.dims → IsOver v.dims e → MeetsOctagon s v → MeetsOctagon (set s x (eval e s)) (assign_value x e v)
 unfolding assign_value
-meets-assign_value x e v s l h o k =
-    meets-then_do' v.matrix k
-  where
-    meets-then_do' : (w : Option Matrix) → MeetsValue s w → MeetsValue (set s x (eval e s)) (then_do w (assigned v.dims x e))
-    meets-then_do' None k = absurd k
-    meets-then_do' (Some m) k = meets-assigned v.dims x e m s l h o k
+meets-assign_value x e v s l o k =
+    meets-and_then s (set s x (eval e s)) (assigned v.dims x e) v.matrix (λ m h. meets-assigned v.dims x e m s l o h) k
 
 within-forgotten_entry : (x : ℕ) (m : Matrix) (s : List ℤ) (y : ℤ) (i j : ℕ) → Meets s m → Within (difference (set s x y) i j) (forgotten_entry x m i j)
 unfolding forgotten_entry
@@ -209,18 +144,8 @@ within-forgotten_entry x m s y i j h = by (nat_eq (i / 2) x || nat_eq (j / 2) x)
         let parts = or_parts (nat_eq (i / 2) x) (nat_eq (j / 2) x) e in
         rw (signed_value-set_other s x y i (eqb-false (i / 2) x parts.0), signed_value-set_other s x y j (eqb-false (j / 2) x parts.1)) (h.within i j)
 
-meets-forgotten_option : (n x : ℕ) (v : Option Matrix) (s : List ℤ) (y : ℤ) → MeetsValue s v → MeetsValue (set s x y) (forgotten_option n x v)
-unfolding forgotten
-meets-forgotten_option n x None s y h = absurd h
-meets-forgotten_option n x (Some m) s y h = meets-table (set s x y) (2 * n) (forgotten_entry x m) (λ i j p q. within-forgotten_entry x m s y i j h)
-
 pub meets-forget_value : (x : ℕ) (v : Octagon) (s : List ℤ) (y : ℤ) → MeetsOctagon s v → MeetsOctagon (set s x y) (forget_value x v)
-unfolding forget_value
-meets-forget_value x v s y h = meets-forgotten_option v.dims x v.matrix s y h
-
-pub meets-copy_value : (copies : List Copy) (v : Octagon) (s : List ℤ) → length s ≡ v.dims → AreOver v.dims copies → MeetsOctagon s v → MeetsOctagon (copied_state copies s) (copy_value copies v)
-unfolding assign_value eval
-meets-copy_value [] v s l o h = h
-meets-copy_value (c ∷ copies) v s l o h =
-    meets-copy_value copies (assign_value c.target (Variable c.origin) v) (set s c.target (value_at s c.origin))
-    (length-set s c.target (value_at s c.origin) ∙ l) o.2 (meets-assign_value c.target (Variable c.origin) v s l o.0 o.1 h)
+unfolding forget_value forgotten
+meets-forget_value x v s y h =
+    meets-mapped s (set s x y) (forgotten v.dims x) v.matrix
+    (λ m k. meets-table (set s x y) (2 * v.dims) (forgotten_entry x m) (λ i j p q. within-forgotten_entry x m s y i j k)) h

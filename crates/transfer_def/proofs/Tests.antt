@@ -10,7 +10,10 @@ use Rattle.oct_def.specs.Tight.{tight}
 use Rattle.oct_def.specs.Octagon.{Octagon, MeetsOctagon, IsOctagon, IsValueOver, bottom_value, join_value}
 use Rattle.oct_def.proofs.Sound.{meets-tight}
 use Rattle.oct_def.proofs.Lattice.{octagon-join, meets-join}
+use Rattle.spl_core.specs.declared.parts.Cmp.{Cmp}
+use Rattle.spl_core.specs.declared.parts.Cmp.TheVariants as cmp
 use Rattle.spl_core.specs.Expression.{Expression, IsOver, eval}
+use Rattle.spl_core.specs.Condition.{Condition, Constant, Random, Not, And, Or, Compare, compares, May, IsConditionOver}
 use Rattle.interval_form.specs.Interval.{point, ranges_of}
 use Rattle.interval_form.specs.Form.{Form, Reads}
 use Rattle.interval_form.specs.Linear.{constant_form, linear_form}
@@ -18,10 +21,8 @@ use Rattle.interval_form.specs.FormBounds.{bounded}
 use Rattle.interval_form.proofs.Intervals.{Holds-point}
 use Rattle.interval_form.proofs.Linear.{Reads-linear_form, Reads-difference_form, Reads-sum_form, Reads-constant_form}
 use Rattle.interval_form.proofs.Bounding.{in_ranges-ranges_of, length-ranges_of, meets-bounded}
-use Rattle.transfer_def.specs.Assign.{then_do}
-use Rattle.transfer_def.specs.Condition.{Relation, AtMost, Below, AtLeast, Above, Equal, Different, Condition, Constant, Random, Not, And, Or, Compare, compares, May, IsConditionOver}
 use Rattle.transfer_def.specs.Test.{difference_in, difference_and_one, restricted, restrict_at_most, restrict_below, at_most_value, below_value, equal_value, different_value, compare_value, constant_value, test_value}
-use Rattle.transfer_def.proofs.Sound.{meets-then_do}
+use Rattle.transfer_def.proofs.Lifts.{meets-and_then, value-and_then}
 use Rattle.transfer_def.proofs.Values.{matrix-bounded_over, value-tight_over}
 
 -- ---- comparisons
@@ -51,19 +52,19 @@ Reads-difference_and_one n m a b s p q h =
 meets-restricted : (n : ℕ) (f : Form) (m : Matrix) (s : List ℤ) (x : ℤ) → Reads (length (ranges_of n m)) f s x → x ≤ℤ pos 0 → Meets s m → MeetsValue s (restricted n f m)
 unfolding restricted
 meets-restricted n f m s x r k h =
-    meets-then_do s (bounded (ranges_of n m) f m) tight (λ b g. meets-tight s b g)
+    meets-and_then s s tight (bounded (ranges_of n m) f m) (λ b g. meets-tight s b g)
     (meets-bounded (ranges_of n m) f m s x (in_ranges-ranges_of n m s h) r k h)
 
 meets-at_most : (a b : Expression) (v : Octagon) (s : List ℤ) → IsOver v.dims a → IsOver v.dims b → eval a s ≤ℤ eval b s → MeetsOctagon s v → MeetsOctagon s (at_most_value a b v)
 unfolding at_most_value
 meets-at_most a b v s p q k h =
-    meets-then_do s v.matrix (restrict_at_most v.dims a b) (λ m g.
+    meets-and_then s s (restrict_at_most v.dims a b) v.matrix (λ m g.
     meets-restricted v.dims (difference_in v.dims m a b) m s (eval a s -ℤ eval b s) (Reads-difference_in v.dims m a b s p q g) (omega (arith, ints)) g) h
 
 meets-below : (a b : Expression) (v : Octagon) (s : List ℤ) → IsOver v.dims a → IsOver v.dims b → eval a s <ℤ eval b s → MeetsOctagon s v → MeetsOctagon s (below_value a b v)
 unfolding below_value
 meets-below a b v s p q k h =
-    meets-then_do s v.matrix (restrict_below v.dims a b) (λ m g.
+    meets-and_then s s (restrict_below v.dims a b) v.matrix (λ m g.
     meets-restricted v.dims (difference_and_one v.dims m a b) m s ((eval a s -ℤ eval b s) +ℤ pos 1) (Reads-difference_and_one v.dims m a b s p q g) (omega (arith, ints)) g) h
 
 dims-at_most : (a b : Expression) (v : Octagon) → (at_most_value a b v).dims ≡ v.dims
@@ -98,20 +99,20 @@ same_integers x y e = (Decides-int_eq x y).0 e
 apart_integers : (x y : ℤ) → int_eq x y ≡ false → x ≢ y
 apart_integers x y e d = true≢false (sym ((Decides-int_eq x y).1 d) ∙ e)
 
-meets-compare : (r : Relation) (wanted : Bool) (a b : Expression) (v : Octagon) (s : List ℤ) → IsOver v.dims a → IsOver v.dims b → compares r (eval a s) (eval b s) ≡ wanted
+meets-compare : (r : Cmp) (wanted : Bool) (a b : Expression) (v : Octagon) (s : List ℤ) → IsOver v.dims a → IsOver v.dims b → compares r (eval a s) (eval b s) ≡ wanted
     → MeetsOctagon s v → MeetsOctagon s (compare_value r wanted a b v)
-meets-compare AtMost true a b v s p q e h = meets-at_most a b v s p q (omega (arith, ints)) h
-meets-compare AtMost false a b v s p q e h = meets-below b a v s q p (omega (arith, ints)) h
-meets-compare Below true a b v s p q e h = meets-below a b v s p q (omega (arith, ints)) h
-meets-compare Below false a b v s p q e h = meets-at_most b a v s q p (omega (arith, ints)) h
-meets-compare AtLeast true a b v s p q e h = meets-at_most b a v s q p (omega (arith, ints)) h
-meets-compare AtLeast false a b v s p q e h = meets-below a b v s p q (omega (arith, ints)) h
-meets-compare Above true a b v s p q e h = meets-below b a v s q p (omega (arith, ints)) h
-meets-compare Above false a b v s p q e h = meets-at_most a b v s p q (omega (arith, ints)) h
-meets-compare Equal true a b v s p q e h = meets-equal a b v s p q (same_integers (eval a s) (eval b s) e) h
-meets-compare Equal false a b v s p q e h = meets-different a b v s p q (apart_integers (eval a s) (eval b s) e) h
-meets-compare Different true a b v s p q e h = meets-different a b v s p q (apart_integers (eval a s) (eval b s) (not-true (int_eq (eval a s) (eval b s)) e)) h
-meets-compare Different false a b v s p q e h = meets-equal a b v s p q (same_integers (eval a s) (eval b s) (not-false (int_eq (eval a s) (eval b s)) e)) h
+meets-compare cmp.Le true a b v s p q e h = meets-at_most a b v s p q (omega (arith, ints)) h
+meets-compare cmp.Le false a b v s p q e h = meets-below b a v s q p (omega (arith, ints)) h
+meets-compare cmp.Lt true a b v s p q e h = meets-below a b v s p q (omega (arith, ints)) h
+meets-compare cmp.Lt false a b v s p q e h = meets-at_most b a v s q p (omega (arith, ints)) h
+meets-compare cmp.Ge true a b v s p q e h = meets-at_most b a v s q p (omega (arith, ints)) h
+meets-compare cmp.Ge false a b v s p q e h = meets-below a b v s p q (omega (arith, ints)) h
+meets-compare cmp.Gt true a b v s p q e h = meets-below b a v s q p (omega (arith, ints)) h
+meets-compare cmp.Gt false a b v s p q e h = meets-at_most a b v s p q (omega (arith, ints)) h
+meets-compare cmp.Eq true a b v s p q e h = meets-equal a b v s p q (same_integers (eval a s) (eval b s) e) h
+meets-compare cmp.Eq false a b v s p q e h = meets-different a b v s p q (apart_integers (eval a s) (eval b s) e) h
+meets-compare cmp.Ne true a b v s p q e h = meets-different a b v s p q (apart_integers (eval a s) (eval b s) (not-true (int_eq (eval a s) (eval b s)) e)) h
+meets-compare cmp.Ne false a b v s p q e h = meets-equal a b v s p q (same_integers (eval a s) (eval b s) (not-false (int_eq (eval a s) (eval b s)) e)) h
 
 -- ---- the dimensions stay
 
@@ -119,20 +120,20 @@ dims-join : (a b : Octagon) → (join_value a b).dims ≡ a.dims
 unfolding join_value
 dims-join a b = refl
 
-dims-compare : (r : Relation) (wanted : Bool) (a b : Expression) (v : Octagon) → (compare_value r wanted a b v).dims ≡ v.dims
+dims-compare : (r : Cmp) (wanted : Bool) (a b : Expression) (v : Octagon) → (compare_value r wanted a b v).dims ≡ v.dims
 unfolding at_most_value below_value equal_value different_value join_value
-dims-compare AtMost true a b v = refl
-dims-compare AtMost false a b v = refl
-dims-compare Below true a b v = refl
-dims-compare Below false a b v = refl
-dims-compare AtLeast true a b v = refl
-dims-compare AtLeast false a b v = refl
-dims-compare Above true a b v = refl
-dims-compare Above false a b v = refl
-dims-compare Equal true a b v = refl
-dims-compare Equal false a b v = refl
-dims-compare Different true a b v = refl
-dims-compare Different false a b v = refl
+dims-compare cmp.Le true a b v = refl
+dims-compare cmp.Le false a b v = refl
+dims-compare cmp.Lt true a b v = refl
+dims-compare cmp.Lt false a b v = refl
+dims-compare cmp.Ge true a b v = refl
+dims-compare cmp.Ge false a b v = refl
+dims-compare cmp.Gt true a b v = refl
+dims-compare cmp.Gt false a b v = refl
+dims-compare cmp.Eq true a b v = refl
+dims-compare cmp.Eq false a b v = refl
+dims-compare cmp.Ne true a b v = refl
+dims-compare cmp.Ne false a b v = refl
 
 dims-constant : (value wanted : Bool) (v : Octagon) → (constant_value value wanted v).dims ≡ v.dims
 unfolding bottom_value
@@ -186,17 +187,13 @@ value-restricted : (n : ℕ) (f : Form) (m : Matrix) → IsEvenMatrix n m → Is
 unfolding restricted
 value-restricted n f m v = value-tight_over n (bounded (ranges_of n m) f m) (matrix-bounded_over n (ranges_of n m) f m (length-ranges_of n m) v.matrix)
 
-value-then_do : (n : ℕ) (w : Option Matrix) (go : Matrix → Option Matrix) → ((m : Matrix) → IsEvenMatrix n m → IsValueOver n (go m)) → IsValueOver n w → IsValueOver n (then_do w go)
-value-then_do n None go f h = tt
-value-then_do n (Some m) go f h = f m h
-
 value-at_most : (a b : Expression) (v : Octagon) → IsOctagon v → IsOctagon (at_most_value a b v)
 unfolding at_most_value
-value-at_most a b v h = value-then_do v.dims v.matrix (restrict_at_most v.dims a b) (λ m g. value-restricted v.dims (difference_in v.dims m a b) m g) h
+value-at_most a b v h = value-and_then v.dims v.dims (restrict_at_most v.dims a b) v.matrix (λ m g. value-restricted v.dims (difference_in v.dims m a b) m g) h
 
 value-below : (a b : Expression) (v : Octagon) → IsOctagon v → IsOctagon (below_value a b v)
 unfolding below_value
-value-below a b v h = value-then_do v.dims v.matrix (restrict_below v.dims a b) (λ m g. value-restricted v.dims (difference_and_one v.dims m a b) m g) h
+value-below a b v h = value-and_then v.dims v.dims (restrict_below v.dims a b) v.matrix (λ m g. value-restricted v.dims (difference_and_one v.dims m a b) m g) h
 
 value-equal : (a b : Expression) (v : Octagon) → IsOctagon v → IsOctagon (equal_value a b v)
 unfolding equal_value
@@ -207,19 +204,19 @@ unfolding different_value
 value-different a b v h =
     octagon-join (below_value a b v) (below_value b a v) (value-below a b v h) (value-below b a v h) (dims-below a b v ∙ sym (dims-below b a v))
 
-value-compare : (r : Relation) (wanted : Bool) (a b : Expression) (v : Octagon) → IsOctagon v → IsOctagon (compare_value r wanted a b v)
-value-compare AtMost true a b v h = value-at_most a b v h
-value-compare AtMost false a b v h = value-below b a v h
-value-compare Below true a b v h = value-below a b v h
-value-compare Below false a b v h = value-at_most b a v h
-value-compare AtLeast true a b v h = value-at_most b a v h
-value-compare AtLeast false a b v h = value-below a b v h
-value-compare Above true a b v h = value-below b a v h
-value-compare Above false a b v h = value-at_most a b v h
-value-compare Equal true a b v h = value-equal a b v h
-value-compare Equal false a b v h = value-different a b v h
-value-compare Different true a b v h = value-different a b v h
-value-compare Different false a b v h = value-equal a b v h
+value-compare : (r : Cmp) (wanted : Bool) (a b : Expression) (v : Octagon) → IsOctagon v → IsOctagon (compare_value r wanted a b v)
+value-compare cmp.Le true a b v h = value-at_most a b v h
+value-compare cmp.Le false a b v h = value-below b a v h
+value-compare cmp.Lt true a b v h = value-below a b v h
+value-compare cmp.Lt false a b v h = value-at_most b a v h
+value-compare cmp.Ge true a b v h = value-at_most b a v h
+value-compare cmp.Ge false a b v h = value-below a b v h
+value-compare cmp.Gt true a b v h = value-below b a v h
+value-compare cmp.Gt false a b v h = value-at_most a b v h
+value-compare cmp.Eq true a b v h = value-equal a b v h
+value-compare cmp.Eq false a b v h = value-different a b v h
+value-compare cmp.Ne true a b v h = value-different a b v h
+value-compare cmp.Ne false a b v h = value-equal a b v h
 
 value-constant : (value wanted : Bool) (v : Octagon) → IsOctagon v → IsOctagon (constant_value value wanted v)
 unfolding bottom_value

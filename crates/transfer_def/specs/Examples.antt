@@ -1,11 +1,12 @@
--- Worked assignments and tests, with the matrices that they give.
-use Rattle.std.specs.Prelude.{true, ◌≡◌, List, [], ◌∷◌, Some, None, ℤ, pos, neg_ℤ}
+-- Worked assignments, with the matrices that they give.
+use Rattle.std.specs.Prelude.{◌≡◌, List, [], ◌∷◌, Some, None, ℤ, pos, neg_ℤ}
 use Rattle.oct_def.specs.Bound.{Bound, low_limit}
 use Rattle.oct_def.specs.Octagon.{Octagon, top_value}
 use Rattle.spl_core.specs.Expression.{Number, Variable, Add}
+use Rattle.spl_core.specs.Graph.{Copy}
 use Rattle.transfer_def.specs.Assign.{assign_value}
-use Rattle.transfer_def.specs.Condition.{AtMost, Below, Different, Random, Not, Or, Compare}
-use Rattle.transfer_def.specs.Test.{test_value}
+use Rattle.transfer_def.specs.Forget.{forget_value}
+use Rattle.transfer_def.specs.Move.{copy_value}
 
 -- a value over two variables x and y by its four rows, and one over a variable x by its two rows
 abbrev pub value_of_two : List Bound → List Bound → List Bound → List Bound → Octagon
@@ -70,33 +71,26 @@ GreatestExample =
     assign_value 0 (Number 2305843009213693952) (top_value 1) ≡
     value_of_one (two (most (pos 0)) (Some low_limit)) (two None (most (pos 0)))
 
--- a test of `x <= 3`
-abbrev pub AtMostExample : Type 0
-AtMostExample =
-    test_value (Compare AtMost (Variable 0) (Number 3)) true (top_value 1) ≡
-    value_of_one (two (most (pos 0)) None) (two (most (pos 6)) (most (pos 0)))
+-- `x = y; y = random`: nothing is known of x and y
+abbrev pub RandomExample : Type 0
+RandomExample = forget_value 1 (assign_value 0 (Variable 1) (top_value 2)) ≡ top_value 2
 
--- a test of `x != 0` where x is from 0 to 5: x is from 1 to 5
-abbrev pub DifferentExample : Type 0
-DifferentExample =
-    test_value (Compare Different (Variable 0) (Number 0)) true
-    (value_of_one (two (most (pos 0)) (most (pos 0))) (two (most (pos 10)) (most (pos 0)))) ≡
-    value_of_one (two (most (pos 0)) (less (pos 2))) (two (most (pos 10)) (most (pos 0)))
-
--- a test of `not (x < 1 or random)` where x is from 0 to 5: x is from 1 to 5
-abbrev pub NotExample : Type 0
-NotExample =
-    test_value (Not (Or (Compare Below (Variable 0) (Number 1)) Random)) true
-    (value_of_one (two (most (pos 0)) (most (pos 0))) (two (most (pos 10)) (most (pos 0)))) ≡
-    value_of_one (two (most (pos 0)) (less (pos 2))) (two (most (pos 10)) (most (pos 0)))
+-- `y = 3`, and then copies into x from y and into y from x, in order: both are 3
+abbrev pub CopiesExample : Type 0
+CopiesExample =
+    copy_value (record { target = 0; origin = 1 } ∷ record { target = 1; origin = 0 } ∷ []) (assign_value 1 (Number 3) (top_value 2)) ≡
+    value_of_two
+    (four (most (pos 0)) (less (pos 6)) (most (pos 0)) (less (pos 6)))
+    (four (most (pos 6)) (most (pos 0)) (most (pos 6)) (most (pos 0)))
+    (four (most (pos 0)) (less (pos 6)) (most (pos 0)) (less (pos 6)))
+    (four (most (pos 6)) (most (pos 0)) (most (pos 6)) (most (pos 0)))
 
 -- all of these
-pub record TransferExamples : Type 0 where
+pub record AssignExamples : Type 0 where
   pub constant : ConstantExample
   pub sum : SumExample
   pub difference : DifferenceExample
   pub limit : LimitExample
   pub greatest : GreatestExample
-  pub at_most : AtMostExample
-  pub different : DifferentExample
-  pub not_both : NotExample
+  pub random : RandomExample
+  pub copies : CopiesExample

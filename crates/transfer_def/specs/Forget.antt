@@ -1,5 +1,6 @@
 -- The random assignment on a value.
-use Rattle.std.specs.Prelude.{ℕ, ◌*◌, ◌/◌, ◌||◌, nat_eq, Option, Some, None, if◌then◌else◌}
+use Rattle.std.specs.Prelude.{ℕ, ◌*◌, ◌/◌, ◌||◌, nat_eq, if◌then◌else◌}
+use Rattle.std.specs.Option.{option_map}
 use Rattle.oct_def.specs.Bound.{Bound}
 use Rattle.oct_def.specs.Table.{Matrix, table, at}
 use Rattle.oct_def.specs.Octagon.{Octagon, top_entry}
@@ -11,10 +12,6 @@ forgotten_entry x m i j = if nat_eq (i / 2) x || nat_eq (j / 2) x then top_entry
 unfoldable pub forgotten : ℕ → ℕ → Matrix → Matrix
 forgotten n x m = table (2 * n) (forgotten_entry x m)
 
-abbrev pub forgotten_option : ℕ → ℕ → Option Matrix → Option Matrix
-forgotten_option n x None = None
-forgotten_option n x (Some m) = Some (forgotten n x m)
-
 -- a value after a random assignment to x
 unfoldable pub forget_value : ℕ → Octagon → Octagon
-forget_value x v = record { dims = v.dims; matrix = forgotten_option v.dims x v.matrix }
+forget_value x v = record { dims = v.dims; matrix = option_map (forgotten v.dims x) v.matrix }

@@ -1,8 +1,12 @@
+pub mod Dimensions
 pub mod Assign
 pub mod Forget
-pub mod Copies
-pub mod Condition
 pub mod Test
+pub mod Move
+pub mod Enter
+pub mod Back
 pub mod Special
 pub mod Laws
 pub mod Examples
+pub mod TestExamples
+pub mod CallExamples

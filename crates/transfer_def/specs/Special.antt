@@ -5,7 +5,7 @@ use Rattle.oct_def.specs.Bound.{Bound, clamp, clamped, plus, least, half}
 use Rattle.oct_def.specs.Table.{Matrix, at}
 use Rattle.oct_def.specs.Matrix.{opposite}
 use Rattle.interval_form.specs.Interval.{wider}
-use Rattle.transfer_def.specs.Assign.{extended_entry}
+use Rattle.transfer_def.specs.Dimensions.{extended_entry}
 
 -- the bound b on twice the signed dimension t
 unfoldable pub twice_entry : ℕ → Bound → ℕ → ℕ → Bound

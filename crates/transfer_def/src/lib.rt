@@ -1,35 +1,53 @@
-// The assignment, the random assignment and the test on octagons, with their laws. The definitions stand in specs/; the
-// functions here have no code, and each has a law for its contract.
+// The assignment, the random assignment, the test, the call and the return on octagons, with their laws. The definitions
+// stand in specs/; the functions here have no code, and each has a law for its contract. To use a law, call it and cite its
+// `ensures`.
 #![tactic(auto)]
 
-ghost use Rattle.transfer_def.specs.Examples.{TransferExamples};
-ghost use Rattle.transfer_def.specs.Laws.{AssignmentIsSound, AssignmentIsValue, ConstantIsExact, CopiesAreSound, CopiesAreValues, DifferenceIsExact, ForgettingIsSound, ForgettingIsValue, NegativeIsExact, SumIsExact, TestIsSound, TestIsValue, TestKeepsDims, VariableIsExact};
+ghost use Rattle.transfer_def.specs.CallExamples.{CallExamples};
+ghost use Rattle.transfer_def.specs.Examples.{AssignExamples};
+ghost use Rattle.transfer_def.specs.TestExamples.{LatticeExamples, TestExamples};
+ghost use Rattle.transfer_def.specs.Laws.{AssignmentIsSound, AssignmentIsValue, BackGivesValue, BackIsSound, BackOfBottomCaller, BackOfBottomExit, ConstantIsExact, DifferenceIsExact, EnterGivesValue, EnterIsSound, EnterOfBottom, MoveGivesValue, MoveKeepsDims, MoveOfBottom, MovesAreOver, NegativeIsExact, StepIsSound, SumIsExact, VariableIsExact};
 
-/// Law: where a state meets a value, its successor by an assignment meets the value after the assignment, and its successor
-/// by copies in order meets the value after the copies.
+pub use interval_form::{law_bounds, law_linearise};
+pub use oct_def::{law_lattice, law_tight};
+
+/// Law: where a state meets a value and flows by a move, its successor meets the value after the move. The moves of a
+/// procedure of a core are over its variables, as the first clause wants them.
+pub fn law_step()
+    ensures step { StepIsSound }
+    ensures over { MovesAreOver }
+{}
+
+/// Law: where a state meets a value, the callee's first state meets the value at its entry.
+pub fn law_enter()
+    ensures { EnterIsSound }
+{}
+
+/// Law: the state after a call meets the value after it.
+pub fn law_back()
+    ensures { BackIsSound }
+{}
+
+/// Law: moves, calls and returns give values of the domain where they are given values.
+pub fn law_values()
+    ensures moves { MoveGivesValue }
+    ensures dims { MoveKeepsDims }
+    ensures enter { EnterGivesValue }
+    ensures back { BackGivesValue }
+    ensures assigned { AssignmentIsValue }
+{}
+
+/// Law: of Bottom comes Bottom.
+pub fn law_bottom()
+    ensures moves { MoveOfBottom }
+    ensures enter { EnterOfBottom }
+    ensures caller { BackOfBottomCaller }
+    ensures exit { BackOfBottomExit }
+{}
+
+/// Law: where a state meets a value, its successor by an assignment meets the value after the assignment.
 pub fn law_assign()
     ensures assigned { AssignmentIsSound }
-    ensures copied { CopiesAreSound }
-{}
-
-/// Law: where a state meets a value, each successor by a random assignment meets the value after the random assignment.
-pub fn law_forget()
-    ensures { ForgettingIsSound }
-{}
-
-/// Law: an assignment, copies in order and a random assignment give a value of the domain where they are given one.
-pub fn law_values()
-    ensures assigned { AssignmentIsValue }
-    ensures copied { CopiesAreValues }
-    ensures forgotten { ForgettingIsValue }
-{}
-
-/// Law: where a condition may come out as wanted in a state that meets a value, the state meets the value after the test; and
-/// a test gives a value over as many variables where it is given one.
-pub fn law_test()
-    ensures sound { TestIsSound }
-    ensures value { TestIsValue }
-    ensures dims { TestKeepsDims }
 {}
 
 /// Law: the matrix with a new variable that equals a constant, a variable, or a variable plus or minus a constant, entry by
@@ -43,7 +61,10 @@ pub fn law_special()
     ensures difference { DifferenceIsExact }
 {}
 
-/// Worked assignments and tests, with the matrices that they give.
+/// Worked assignments, tests, joins, widenings, narrowings, calls and returns, with the matrices that they give.
 pub fn law_examples()
-    ensures { TransferExamples }
+    ensures assignments { AssignExamples }
+    ensures tests { TestExamples }
+    ensures lattice { LatticeExamples }
+    ensures calls { CallExamples }
 {}

@@ -1,11 +1,20 @@
-use Rattle.transfer_def.proofs.Values.{value-assign_value, value-copy_value, value-forget_value}
+use Rattle.transfer_def.proofs.Values.{value-assign_value}
+use Rattle.transfer_def.proofs.Moves.{value-move_value, dims-move_value}
+use Rattle.transfer_def.proofs.Enter.{value-enter_value}
+use Rattle.transfer_def.proofs.Back.{value-back_value}
 use Rattle.transfer_def.proofs.law_values.Goals as goal
+
+pub returns-clause-moves : goal.returns-clause-moves
+returns-clause-moves c = value-move_value
+
+pub returns-clause-dims : goal.returns-clause-dims
+returns-clause-dims c = dims-move_value
+
+pub returns-clause-enter : goal.returns-clause-enter
+returns-clause-enter c = value-enter_value
+
+pub returns-clause-back : goal.returns-clause-back
+returns-clause-back c = value-back_value
 
 pub returns-clause-assigned : goal.returns-clause-assigned
 returns-clause-assigned c = value-assign_value
-
-pub returns-clause-copied : goal.returns-clause-copied
-returns-clause-copied c = value-copy_value
-
-pub returns-clause-forgotten : goal.returns-clause-forgotten
-returns-clause-forgotten c = value-forget_value

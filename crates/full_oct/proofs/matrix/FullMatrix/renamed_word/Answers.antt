@@ -1,8 +1,8 @@
-use Rattle.std.proofs.Common.{ap, ◌∙◌, arith, rules}
+use Rattle.std.proofs.Common.{[], ◌∷◌, ap, ◌∙◌, arith, rules}
 use Rattle.std.specs.Prelude.{FitsSigned}
 use Rattle.std.specs.Int.{w64}
 use Rattle.oct_def.specs.Table.{at}
-use Rattle.transfer_def.specs.Assign.{renamed_entry, place_of}
+use Rattle.transfer_def.specs.Dimensions.{moved_entry, moved_dimension}
 use Rattle.full_oct.proofs.Equations.{place_below, bound_of-passed}
 use Rattle.full_oct.proofs.matrix.FullMatrix.renamed_word.Goals as goal
 
@@ -16,9 +16,9 @@ word-requires c =
     }
 
 pub returns : goal.returns
-unfolding renamed_entry
+unfolding moved_entry
 returns c =
     let s = c.args.self.now in
     let fits : FitsSigned w64 c.word.result = search rules in
     bound_of-passed c.word.result _ fits c.word.ensures.bound
-    ∙ ap (λ k. at s k c.place-2.result) c.place.ensures ∙ ap (at s (place_of c.args.dims c.args.x c.args.i)) c.place-2.ensures
+    ∙ ap (λ k. at s k c.place-2.result) c.place.ensures ∙ ap (at s (moved_dimension c.args.dims (c.args.x ∷ []) c.args.i)) c.place-2.ensures

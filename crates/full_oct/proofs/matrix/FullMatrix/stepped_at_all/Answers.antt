@@ -4,8 +4,8 @@ use Rattle.oct_def.proofs.Sound.{length-pair_steps}
 use Rattle.full_oct.proofs.Places.{pair_steps-more}
 use Rattle.full_oct.proofs.matrix.FullMatrix.stepped_at_all.Goals as goal
 
-pub stepped-requires : goal.stepped-requires
-stepped-requires c =
+pub step-requires : goal.step-requires
+step-requires c =
     let rows = ap length c.loop-k.invariant ∙ length-pair_steps c.loop-k.k c.args.self.now in
     record { variable = omega (arith, c.size-k-end.ensures.rows) }
 
@@ -15,7 +15,7 @@ loop-k-init c = c.in_ok-m.ensures.same
 
 pub loop-k-preserved : goal.loop-k-preserved
 loop-k-preserved c =
-    c.in_ok-m-2.ensures.step ∙ ap (pair_step c.loop-k.k) c.loop-k.invariant ∙ pair_steps-more c.loop-k.k c.args.self.now
+    c.in_ok-step.ensures.step ∙ ap (pair_step c.loop-k.k) c.loop-k.invariant ∙ pair_steps-more c.loop-k.k c.args.self.now
 
 pub returns : goal.returns
 unfolding closure
