@@ -259,13 +259,13 @@ comment w body e h = record { reads = λ rest tail r. read_comment w body rest t
 closed : (text : List ℕ) → HasNoClose text → HasNoClose (text ++ (32 ∷ 42 ∷ []))
 closed text h = then_other text (32 ∷ 42 ∷ []) h refl (calm_then (32 ∷ []) (42 ∷ []) refl (NoClose-cons 42 [] refl NoClose-nil))
 
-abbrev IsCalm : List ℕ → Type 0
+abbrev pub IsCalm : List ℕ → Type 0
 IsCalm text = list_all (λ x. not (x == 42)) text ≡ true
 
-calm_append : (a b : List ℕ) → IsCalm a → IsCalm b → IsCalm (a ++ b)
+pub calm_append : (a b : List ℕ) → IsCalm a → IsCalm b → IsCalm (a ++ b)
 calm_append a b x y = list_all-append (λ x. not (x == 42)) a b ∙ and_from (list_all (λ x. not (x == 42)) a) (list_all (λ x. not (x == 42)) b) x y
 
-place_calm : (bytes : List ℕ) (offset : ℕ) → IsCalm (place_text bytes offset)
+pub place_calm : (bytes : List ℕ) (offset : ℕ) → IsCalm (place_text bytes offset)
 place_calm bytes offset =
     let line_digits = decimal (line_of bytes offset) in
     let column_digits = decimal (column_of bytes offset) in

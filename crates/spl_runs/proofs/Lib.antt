@@ -11,3 +11,4 @@ pub mod Edges
 pub mod Following
 pub mod Sound
 pub mod Either
+pub mod Coming

@@ -1,4 +1,5 @@
 pub mod Runs
+pub mod Comes
 pub mod Choices
 pub mod Word
 pub mod ChoicesText

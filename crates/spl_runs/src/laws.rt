@@ -1,4 +1,5 @@
 //! Laws over the definitions, as calls whose contracts are the laws.
+ghost use Rattle.spl_runs.specs.Comes.{RunsAreSound};
 ghost use Rattle.spl_runs.specs.Examples.{RunExamples};
 ghost use Rattle.spl_runs.specs.Laws.{ChoicesAreOne, FaultIsOne, HasNotBoth, HasOneOrOther, ReplaysAreRuns};
 
@@ -19,4 +20,10 @@ pub fn law_choices()
 /// choose one after another.
 pub fn law_replays()
     ensures { ReplaysAreRuns }
+{}
+
+/// In every run of the graph of a core each frame of each stack has a state that comes to its point; and where a frame
+/// stands on another, that one is at a call of the frame's procedure, and the frame's inputs are the arguments' values.
+pub fn law_runs()
+    ensures { RunsAreSound }
 {}

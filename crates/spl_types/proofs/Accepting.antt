@@ -13,7 +13,7 @@ use Rattle.spl_types.specs.Faults.{Kept, Faulted, AnswersWith}
 use Rattle.spl_types.specs.Tables.{proc_names}
 use Rattle.spl_types.specs.Walking.{HasMet}
 use Rattle.spl_types.specs.Routines.{named_checks}
-use Rattle.spl_types.specs.Accepted.{IsFaultOf, IsAccepted, copies_of, copies_in}
+use Rattle.spl_types.specs.Accepted.{IsCheckFaultOf, KeepsRules, copies_of, copies_in}
 use Rattle.spl_types.proofs.Firsts.{kept_append, faulted_then, faulted_first, kept_of, fault_of}
 use Rattle.spl_types.proofs.Calling.{split_at}
 use Rattle.spl_types.proofs.Numbering.{no_proc}
@@ -167,12 +167,12 @@ few_dims p cs k e le =
     omega (arith, s, ap (λ (c : List Bool × ℕ). c.1) q.1)
 
 -- a fault of the procedures, and one of main
-pub fault_of_procs : (p : Program) (y : CheckFault) → Faulted (proc_checks p.procs [] 0 p.procs) y → IsFaultOf p y
+pub fault_of_procs : (p : Program) (y : CheckFault) → Faulted (proc_checks p.procs [] 0 p.procs) y → IsCheckFaultOf p y
 unfolding checks
 fault_of_procs p (Broken rule at) h = faulted_first (proc_checks p.procs [] 0 p.procs) (procedure_checks p.procs (points_after 0 p.procs) (main_procedure p)) (Broken rule at) h
 fault_of_procs p NoMemory h = h
 
-pub fault_of_main : (p : Program) (points : ℕ) (u : Procedure) (y : CheckFault) → points ≡ points_after 0 p.procs → u ≡ main_procedure p → Kept (proc_checks p.procs [] 0 p.procs) → Faulted (procedure_checks p.procs points u) y → IsFaultOf p y
+pub fault_of_main : (p : Program) (points : ℕ) (u : Procedure) (y : CheckFault) → points ≡ points_after 0 p.procs → u ≡ main_procedure p → Kept (proc_checks p.procs [] 0 p.procs) → Faulted (procedure_checks p.procs points u) y → IsCheckFaultOf p y
 unfolding checks
 fault_of_main p points u (Broken rule at) e f k h =
     let P : ℕ → Type 0 = λ n. Faulted (procedure_checks p.procs n (main_procedure p)) (Broken rule at) in
@@ -180,9 +180,9 @@ fault_of_main p points u (Broken rule at) e f k h =
     faulted_then (proc_checks p.procs [] 0 p.procs) (procedure_checks p.procs (points_after 0 p.procs) (main_procedure p)) (Broken rule at) k (subst P e (subst Q f h))
 fault_of_main p points u NoMemory e f k h = tt
 
-pub exit_fault : {X : Type 0} (p : Program) (r : Result X CheckFault) (y : CheckFault) → IsErrAnd r (λ z. z ≡ y) → IsFaultOf p y → IfErr r (IsFaultOf p)
+pub exit_fault : {X : Type 0} (p : Program) (r : Result X CheckFault) (y : CheckFault) → IsErrAnd r (λ z. z ≡ y) → IsCheckFaultOf p y → IfErr r (IsCheckFaultOf p)
 exit_fault p (Ok v) y e h = absurd e
-exit_fault p (Err z) y e h = let F : CheckFault → Type 0 = λ x. IsFaultOf p x in subst F (sym e) h
+exit_fault p (Err z) y e h = let F : CheckFault → Type 0 = λ x. IsCheckFaultOf p x in subst F (sym e) h
 
 -- all is kept
 pub record AllKept (p : Program) (cs : List Copies) (w : Walk) : Type 0 where
@@ -206,7 +206,7 @@ all_stored p cs cs' w k s e =
     ∙ (ap (λ c. map copies_of (map procedure_of p.procs) ++ c ∷ []) (stored_so p.procs (main_procedure p) (points_after 0 p.procs) w k.met)
     ∙ sym (map-append copies_of (map procedure_of p.procs) (main_procedure p ∷ []))))
 
-pub accepted : (p : Program) (cs cs' : List Copies) (w : Walk) → AllKept p cs w → length p.procs ≤ 256 → copies_in cs' ≡ map copies_of (procedures p) → IsAccepted p
+pub accepted : (p : Program) (cs cs' : List Copies) (w : Walk) → AllKept p cs w → length p.procs ≤ 256 → copies_in cs' ≡ map copies_of (procedures p) → KeepsRules p
 accepted p cs cs' w k n e = record {
   unbroken = k.unbroken;
   procs = n;

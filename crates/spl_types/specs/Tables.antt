@@ -3,7 +3,8 @@ use Rattle.std.specs.Prelude.{◌≡◌, ℕ, if◌then◌else◌, ◌<◌, fals
 use Rattle.std.specs.Str.{bytes_eq}
 use Rattle.spl_tree.specs.Program.{Declared, ProcMeaning}
 use Rattle.spl_types.specs.declared.fault.CheckFault.{CheckFault}
-use Rattle.spl_types.specs.Checks.{decl_checks}
+use Rattle.spl_types.specs.declared.fault.CheckRule.TheVariants.{UnknownVariable}
+use Rattle.spl_types.specs.Checks.{check, is_among, decl_checks}
 use Rattle.spl_types.specs.Faults.{AnswersWith}
 
 -- the number of a name in a table
@@ -30,3 +31,8 @@ Distinct names = (i j : ℕ) → i < j → j < length names → bytes_eq (slice_
 -- the declaration with this number is checked after those with these names, and its name joins them
 abbrev pub NextDecl : List (List ℕ) → List (List ℕ) → List Declared → ℕ → Result (Unit {0}) CheckFault → Type 0
 NextDecl old new ds i result = (d : Declared) → AnswersWith result (decl_checks old (slice_index_or ds i d ∷ [])) (λ _. new ≡ old ++ (slice_index_or ds i d).name.name ∷ [])
+
+-- the number of a variable is found among the declared names, no two of which are the same; or it isn't there
+abbrev pub FindsVariable : List (List ℕ) → List ℕ → ℕ → Result ℕ CheckFault → Type 0
+FindsVariable declared x at result =
+    AnswersWith result (check UnknownVariable at (is_among x declared) ∷ []) (λ number. (position (bytes_eq x) declared ≡ Some number) × Distinct declared)

@@ -11,10 +11,11 @@ ghost use Rattle.spl_types.specs.Walking.{scope_in, KnowsProcs, StepsToCall};
 
 use crate::demands::demand;
 use crate::fault::{CheckFault, CheckRule};
+use crate::laws::law_tree;
 use crate::nodes::{decl_count, name, name_count, proc_node};
 use crate::scope::{Scope, Walk};
 use crate::targets::{arguments, targets};
-use spl_tree::{NameId, NameList, Tree, law_numbers};
+use spl_tree::{NameId, NameList, Tree};
 
 /// The checks of a call; the last number is the place of the called name.
 pub fn call(
@@ -49,9 +50,7 @@ fn called_procedure(
     requires args { HasNames scope.now.tree.now args }
     ensures { Answers result (call_checks (scope_in scope.now) (names_over (named_in scope.now.tree.now) list) (name_of (names_in scope.now.tree.now) called) (names_over (named_in scope.now.tree.now) args) at) }
 {
-    law_numbers();
-    // for its clause, that the parts are those of a tree
-    let _all = scope.tree.proc_count();
+    law_tree(scope.tree);
     let number = match scope.procs.number(name(scope.tree, called)) {
         Some(number) => number,
         None => return Err(CheckFault::Broken(CheckRule::UnknownProcedure, at)),

@@ -4,20 +4,22 @@ ghost use Rattle.std.specs.Prelude.{◌≡◌, ◌≤◌, ◌++◌, ◌∷◌, [
 ghost use Rattle.spl_tree.specs.Facts.{IsTree};
 ghost use Rattle.spl_tree.specs.Laws.{procs_in};
 ghost use Rattle.spl_tree.specs.Meaning.{program_of};
-ghost use Rattle.spl_types.specs.Checks.{proc_checks, points_after, procedure_of, broken_rule, is_among, declared_names};
+ghost use Rattle.spl_types.specs.Checks.{proc_checks, broken_rule, is_among, declared_names, most_dimensions};
 ghost use Rattle.spl_types.specs.Dimensions.{dimensions, dimensions_of, targets_in};
 ghost use Rattle.spl_types.specs.Faults.{AnswersWith};
 ghost use Rattle.spl_types.specs.Tables.{Numbers, proc_names};
 ghost use Rattle.spl_types.specs.Naming.{texts};
 ghost use Rattle.spl_types.specs.Routines.{routine_in, RoutineFits};
-ghost use Rattle.spl_types.specs.Accepted.{IsFaultOf, IsAccepted, copies_of, copies_in};
+ghost use Rattle.spl_types.specs.Accepted.{IsCheckFaultOf, KeepsRules, HavePassed, copies_in};
 
 use crate::fault::CheckFault;
+use crate::laws::law_tree;
 use crate::names::{Names, add_all, add_copies, add_inputs};
 use crate::routines::{Routine, named_procedure, procedure, routine_at};
 use crate::scope::{Copies, Walk};
-use crate::tables::{NoMemory, ProcTable};
-use spl_tree::{Tree, law_numbers};
+use crate::tables::ProcTable;
+use memory::NoMemory;
+use spl_tree::Tree;
 use std::alloc::Global;
 use std::marker::Model;
 
@@ -47,7 +49,7 @@ impl<'t> Checked<'t> {
     pub fn tree(&self) -> &Tree
         ensures value { result.now ≡ self.now }
         ensures known { IsTree self.now }
-        ensures accepted { IsAccepted (program_of self.now) }
+        ensures accepted { KeepsRules (program_of self.now) }
     {
         self.tree
     }
@@ -57,9 +59,9 @@ impl<'t> Checked<'t> {
     pub fn dims(&self, p: u32) -> u32
         requires { p ≤ length self.now.procs }
         ensures count { result ≡ length (dimensions (program_of self.now) p) }
-        ensures small { result ≤ 128 }
+        ensures small { result ≤ most_dimensions }
     {
-        law_numbers();
+        law_tree(self.tree);
         let copies = &self.procs[p as usize];
         copies.dims
     }
@@ -70,7 +72,7 @@ impl<'t> Checked<'t> {
         requires { p ≤ length self.now.procs }
         ensures { IfOk result (λ names. names ≡ dimensions (program_of self.now) p) }
     {
-        law_numbers();
+        law_tree(self.tree);
         let copies = &self.procs[p as usize];
         let names = all_names(alloc, self.tree, routine_at(self.tree, p), copies)?;
         Ok(Names::of(names))
@@ -100,9 +102,9 @@ fn all_names(
 /// The tree as a checked one, or the first broken rule in the order of the walk, with its place.
 pub fn check<'t>(alloc: Global, tree: &'t Tree) -> Result<Checked<'t>, CheckFault>
     ensures accepted { IfOk result (λ checked. (checked ≡ tree.now) × (broken_rule (program_of tree.now) ≡ None)) }
-    ensures broken { IfErr result (IsFaultOf (program_of tree.now)) }
+    ensures broken { IfErr result (IsCheckFaultOf (program_of tree.now)) }
 {
-    law_numbers();
+    law_tree(tree);
     let table = match ProcTable::of(alloc, tree) {
         Ok(table) => table,
         Err(_) => return Err(CheckFault::NoMemory),
@@ -127,9 +129,9 @@ fn procedures<'t>(
 ) -> Result<u32, CheckFault>
     requires numbers { Numbers table.now (proc_names (procs_in tree.now)) }
     requires none { procs.old.items ≡ [] }
-    ensures { AnswersWith result (proc_checks (procs_in tree.now) [] 0 (procs_in tree.now)) (λ points. (points ≡ points_after 0 (procs_in tree.now)) × (points ≤ 4096) × (length (procs_in tree.now) ≤ 256) × (copies_in procs.new.items ≡ map copies_of (map procedure_of (procs_in tree.now)))) }
+    ensures { AnswersWith result (proc_checks (procs_in tree.now) [] 0 (procs_in tree.now)) (λ points. HavePassed (procs_in tree.now) points procs.new.items) }
 {
-    law_numbers();
+    law_tree(tree);
     let mut points = 0;
     for p in 0..tree.proc_count() {
         let Walk {

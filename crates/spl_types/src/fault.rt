@@ -21,7 +21,7 @@ pub enum CheckRule {
 /// wanting.
 #[derive(Clone, Copy, Debug, Drop, PartialEq, Eq, Error)]
 pub enum CheckFault {
-    #[error("a rule is broken")]
+    #[error("{0:?} at {1}")]
     Broken(CheckRule, usize),
     #[error("out of memory")]
     NoMemory,

@@ -9,18 +9,18 @@ mod exprs;
 mod fault;
 mod laws;
 mod names;
-mod nodes;
+pub mod nodes;
 mod routines;
 mod scope;
 mod stmts;
 mod tables;
 mod targets;
-#[cfg(test)]
-mod tests;
 mod walk;
 
 pub use checked::{Checked, check};
 pub use fault::{CheckFault, CheckRule};
-pub use laws::law_examples;
+pub use laws::{law_examples, law_tree};
+pub use memory::NoMemory;
 pub use names::Names;
-pub use tables::NoMemory;
+pub use routines::{Routine, routine_at};
+pub use tables::NameTable;

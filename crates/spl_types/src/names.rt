@@ -3,12 +3,12 @@
 ghost use Rattle.std.specs.Prelude.{◌≡◌, ◌<◌, ◌++◌, ◌∷◌, ◌≤◌, ℕ, List, [], codes, filter, length, map, slice_index_or, OnOk, if◌then◌else◌};
 ghost use Rattle.spl_tree.specs.Facts.{HasDecls};
 ghost use Rattle.spl_tree.specs.Meaning.{decls_in, decls_over};
-ghost use Rattle.spl_types.specs.Checks.{is_among, declared_names};
+ghost use Rattle.spl_types.specs.Checks.{is_among, declared_names, most_dimensions};
 ghost use Rattle.spl_types.specs.Dimensions.{input_name};
 ghost use Rattle.spl_types.specs.Naming.{texts};
 
 use crate::nodes::{decl_count, decl_node, name};
-use crate::tables::NoMemory;
+use memory::NoMemory;
 use spl_tree::{DeclList, Tree};
 use std::alloc::Global;
 use std::marker::Model;
@@ -21,18 +21,19 @@ pub struct Names {
 
 impl Model for Names {
     ghost use Rattle.std.specs.Prelude.{◌≤◌, ℕ, List, map, vec_len};
+    ghost use Rattle.spl_types.specs.Checks.{most_dimensions};
 
     ghost Value = { List (List ℕ) };
 
     ghost view = { λ n. map (λ name. name.items) n.names.items };
 
-    ghost invariant = { λ n. vec_len n.names ≤ 128 };
+    ghost invariant = { λ n. vec_len n.names ≤ most_dimensions };
 }
 
 impl Names {
     /// These names, of which there are at most 128.
-    pub fn of(names: Vec<Vec<u8>>) -> Names
-        requires { length names.items ≤ 128 }
+    pub(crate) fn of(names: Vec<Vec<u8>>) -> Names
+        requires { length names.items ≤ most_dimensions }
         ensures { result ≡ texts names.items }
     {
         Names { names }
@@ -115,8 +116,8 @@ pub fn add_copies(
 fn add(alloc: Global, names: &mut Vec<Vec<u8>>, bytes: &[u8]) -> Result<(), NoMemory>
     ensures { OnOk result (texts names.new.items ≡ texts names.old.items ++ bytes.now ∷ []) }
 {
-    let copy = Vec::from_slice(alloc, bytes).map_err(|_| NoMemory)?;
-    names.push(copy).map_err(|_| NoMemory)?;
+    let copy = Vec::from_slice(alloc, bytes)?;
+    names.push(copy)?;
     Ok(())
 }
 
@@ -129,11 +130,11 @@ fn add_input(
 ) -> Result<(), NoMemory>
     ensures { OnOk result (texts names.new.items ≡ texts names.old.items ++ (if assigned then bytes.now ++ codes "@" else bytes.now) ∷ []) }
 {
-    let mut copy = Vec::from_slice(alloc, bytes).map_err(|_| NoMemory)?;
+    let mut copy = Vec::from_slice(alloc, bytes)?;
     if assigned {
-        copy.push(b'@').map_err(|_| NoMemory)?;
+        copy.push(b'@')?;
     }
-    names.push(copy).map_err(|_| NoMemory)?;
+    names.push(copy)?;
     Ok(())
 }
 

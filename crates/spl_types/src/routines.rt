@@ -5,22 +5,23 @@ ghost use Rattle.spl_tree.specs.Program.{ProcMeaning};
 ghost use Rattle.spl_tree.specs.Facts.{HasBlock, IsPlace};
 ghost use Rattle.spl_tree.specs.Laws.{procs_in};
 ghost use Rattle.spl_tree.specs.Meaning.{program_of, stmts_in, block_over};
-ghost use Rattle.spl_types.specs.Checks.{decl_checks, declared_names, all_decls, scope_of, met_before, with_point, met_by, met_by_end, procedure_of, main_procedure, procedure_checks, is_among};
+ghost use Rattle.spl_types.specs.Checks.{decl_checks, declared_names, all_decls, main_procedure, is_among, most_dimensions, most_points};
 ghost use Rattle.spl_types.specs.Dimensions.{procedures};
 ghost use Rattle.spl_types.specs.Faults.{AnswersWith};
 ghost use Rattle.spl_types.specs.Tables.{Numbers, proc_names};
-ghost use Rattle.spl_types.specs.Walking.{scope_in, KnowsProcs, HasMet};
-ghost use Rattle.spl_types.specs.Routines.{routine_in, RoutineFits, body_checks, named_checks};
+ghost use Rattle.spl_types.specs.Walking.{scope_in, KnowsProcs};
+ghost use Rattle.spl_types.specs.Routines.{routine_in, RoutineFits, PassesBody, PassesProcedure, PassesNumbered};
 
 use crate::decls::declare;
 use crate::demands::demand;
 use crate::fault::{CheckFault, CheckRule};
+use crate::laws::law_tree;
 use crate::nodes::{decl_count, name, proc_node};
 use crate::scope::{Scope, Walk};
 use crate::stmts::block;
 use crate::tables::{NameTable, ProcTable};
 use crate::walk::{meet_point, start};
-use spl_tree::{Block, DeclList, Tree, law_numbers};
+use spl_tree::{Block, DeclList, Tree};
 use std::alloc::Global;
 
 /// The most procedures besides main that a program may have.
@@ -45,7 +46,7 @@ pub fn routine_at(tree: &Tree, p: u32) -> Routine
     ensures stands { routine_in tree.now result ≡ slice_index_or (procedures (program_of tree.now)) p (main_procedure (program_of tree.now)) }
     ensures fits { RoutineFits tree.now result }
 {
-    law_numbers();
+    law_tree(tree);
     if p < tree.proc_count() {
         let (proc, at) = proc_node(tree, p);
         return Routine {
@@ -78,12 +79,10 @@ pub fn named_procedure<'t>(
 ) -> Result<Walk, CheckFault>
     requires there { p < length tree.now.procs }
     requires numbers { Numbers procs.now (proc_names (procs_in tree.now)) }
-    requires points { points ≤ 4096 }
-    ensures { (d : ProcMeaning) → AnswersWith result (named_checks (procs_in tree.now) (proc_names (take p (procs_in tree.now))) points (slice_index_or (procs_in tree.now) p d)) (λ w. (p < 256) × HasMet (scope_of (procs_in tree.now) (procedure_of (slice_index_or (procs_in tree.now) p d))) (met_by_end points (procedure_of (slice_index_or (procs_in tree.now) p d))) w) }
+    requires points { points ≤ most_points }
+    ensures { PassesNumbered (procs_in tree.now) p points result }
 {
-    law_numbers();
-    // for its clause, that the parts are those of a tree
-    let _all = tree.proc_count();
+    law_tree(tree);
     let (proc, at) = proc_node(tree, p);
     demand(p < MOST_PROCEDURES, CheckRule::TooManyProcedures, at.name)?;
     let first = is_first(tree, procs, name(tree, proc.name), p);
@@ -99,9 +98,7 @@ fn is_first<'t>(tree: &Tree, procs: &ProcTable<'t>, name: &[u8], p: u32) -> bool
     requires own { (d : ProcMeaning) → name.now ≡ (slice_index_or (procs_in tree.now) p d).name.name }
     ensures { result ≡ not (is_among name.now (proc_names (take p (procs_in tree.now)))) }
 {
-    law_numbers();
-    // for its clause, that the parts are those of a tree
-    let _all = tree.proc_count();
+    law_tree(tree);
     match procs.number(name) {
         Some(first) => first == p,
         None => true,
@@ -118,8 +115,8 @@ pub fn procedure<'t>(
 ) -> Result<Walk, CheckFault>
     requires fits { RoutineFits tree.now routine }
     requires numbers { Numbers procs.now (proc_names (procs_in tree.now)) }
-    requires points { points ≤ 4096 }
-    ensures { AnswersWith result (procedure_checks (procs_in tree.now) points (routine_in tree.now routine)) (λ w. HasMet (scope_of (procs_in tree.now) (routine_in tree.now routine)) (met_by_end points (routine_in tree.now routine)) w) }
+    requires points { points ≤ most_points }
+    ensures { PassesProcedure (procs_in tree.now) points (routine_in tree.now routine) result }
 {
     let declared = declarations(alloc, tree, routine)?;
     let scope = Scope {
@@ -154,10 +151,10 @@ fn body(scope: &Scope, begin: usize, stmts: Block, points: u32) -> Result<Walk, 
     requires procs { KnowsProcs scope.now }
     requires there { HasBlock scope.now.tree.now (length scope.now.tree.now.stmts) stmts }
     requires placed { IsPlace begin }
-    requires points { points ≤ 4096 }
-    requires declared { length scope.now.declared ≤ 128 }
+    requires points { points ≤ most_points }
+    requires declared { length scope.now.declared ≤ most_dimensions }
     requires inputs { scope.now.inputs ≤ length scope.now.declared }
-    ensures { AnswersWith result (body_checks (scope_in scope.now) points begin (block_over scope.now.tree.now.stmt_items (stmts_in scope.now.tree.now) stmts)) (λ w. HasMet (scope_in scope.now) (met_by (with_point (met_before points)) (block_over scope.now.tree.now.stmt_items (stmts_in scope.now.tree.now) stmts)) w) }
+    ensures { PassesBody (scope_in scope.now) points begin (block_over scope.now.tree.now.stmt_items (stmts_in scope.now.tree.now) stmts) result }
 {
     let mut walk = start(scope, points)?;
     meet_point(&mut walk, begin)?;

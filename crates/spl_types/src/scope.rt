@@ -1,6 +1,7 @@
 //! What the walk over a procedure knows.
 
 ghost use Rattle.std.specs.Prelude.{◌≤◌};
+ghost use Rattle.spl_types.specs.Checks.{most_dimensions, most_points};
 
 use crate::tables::{NameTable, ProcTable};
 use spl_tree::Tree;
@@ -23,7 +24,7 @@ pub struct Scope<'s, 't> {
 pub struct Copies {
     pub assigned: Vec<bool>,
     pub dims: u32,
-    ghost small: { dims ≤ 128 },
+    ghost small: { dims ≤ most_dimensions },
 }
 
 /// How far the walk has come: the points of the program so far, and the working copies of the procedure so far.
@@ -31,5 +32,5 @@ pub struct Copies {
 pub struct Walk {
     pub points: u32,
     pub copies: Copies,
-    ghost few: { points ≤ 4096 },
+    ghost few: { points ≤ most_points },
 }

@@ -7,15 +7,13 @@ ghost use Rattle.spl_tree.specs.Laws.{procs_in};
 ghost use Rattle.spl_types.specs.Checks.{is_among};
 ghost use Rattle.spl_types.specs.Tables.{number_in, with_number, Numbers, Distinct, proc_names};
 
+use crate::laws::law_tree;
 use crate::nodes::proc_name;
 use indexmap::{IndexMap, IndexSet};
-use spl_tree::{Tree, law_numbers};
+use memory::NoMemory;
+use spl_tree::Tree;
 use std::alloc::Global;
 use std::marker::Model;
-
-/// Out of memory.
-#[derive(Clone, Copy, Debug, Drop, PartialEq, Eq)]
-pub struct NoMemory;
 
 /// Names in the order in which they were added, each once.
 #[derive(Drop)]
@@ -93,7 +91,7 @@ impl<'t> ProcTable<'t> {
     pub fn of(alloc: Global, tree: &'t Tree) -> Result<ProcTable<'t>, NoMemory>
         ensures { IfOk result (λ table. Numbers table (proc_names (procs_in tree.now))) }
     {
-        law_numbers();
+        law_tree(tree);
         let mut table = ProcTable {
             numbers: IndexMap::new(alloc),
         };

@@ -1,12 +1,11 @@
 //! Variables, and the targets of statements.
 
-ghost use Rattle.std.specs.Prelude.{◌≡◌, ◌<◌, ◌∷◌, [], length, position};
-ghost use Rattle.std.specs.Str.{bytes_eq};
+ghost use Rattle.std.specs.Prelude.{◌<◌, length};
 ghost use Rattle.spl_tree.specs.Facts.{HasNames};
 ghost use Rattle.spl_tree.specs.Meaning.{name_of, names_in, named_in, names_over};
-ghost use Rattle.spl_types.specs.Checks.{check, is_among, argument_checks};
-ghost use Rattle.spl_types.specs.Faults.{Answers, AnswersWith};
-ghost use Rattle.spl_types.specs.Tables.{Distinct};
+ghost use Rattle.spl_types.specs.Checks.{argument_checks};
+ghost use Rattle.spl_types.specs.Faults.{Answers};
+ghost use Rattle.spl_types.specs.Tables.{FindsVariable};
 ghost use Rattle.spl_types.specs.Walking.{scope_in, StepsToOneTarget, StepsToTargets, StepsToNext};
 
 use crate::demands::demand;
@@ -21,7 +20,7 @@ use spl_tree::{NameId, NameList};
 /// The number of a variable.
 fn variable(scope: &Scope, n: NameId, at: usize) -> Result<usize, CheckFault>
     requires { n.0 < length scope.now.tree.now.names }
-    ensures { AnswersWith result (check CheckRule.UnknownVariable at (is_among (name_of (names_in scope.now.tree.now) n) scope.now.declared) ∷ []) (λ number. (position (bytes_eq (name_of (names_in scope.now.tree.now) n)) scope.now.declared ≡ Some number) × Distinct scope.now.declared) }
+    ensures { FindsVariable scope.now.declared (name_of (names_in scope.now.tree.now) n) at result }
 {
     match scope.declared.number(name(scope.tree, n)) {
         Some(number) => Ok(number),

@@ -1,7 +1,7 @@
 //! The steps that the walk counts: points, and targets.
 
 ghost use Rattle.std.specs.Prelude.{◌≡◌, ◌≤◌, IfOk, IfErr, length};
-ghost use Rattle.spl_types.specs.Checks.{Scope as Names};
+ghost use Rattle.spl_types.specs.Checks.{Scope as Names, most_dimensions, most_points};
 ghost use Rattle.spl_types.specs.Checks.{met_before};
 ghost use Rattle.spl_types.specs.Tables.{Distinct};
 ghost use Rattle.spl_types.specs.Walking.{scope_in, HasMet, StepsToPoint, StepsToTarget};
@@ -17,8 +17,8 @@ pub const MOST_DIMENSIONS: u32 = 128;
 
 /// The walk before a procedure's `begin`, after so many points of the program.
 pub fn start(scope: &Scope, points: u32) -> Result<Walk, CheckFault>
-    requires points { points ≤ 4096 }
-    requires declared { length scope.now.declared ≤ 128 }
+    requires points { points ≤ most_points }
+    requires declared { length scope.now.declared ≤ most_dimensions }
     requires inputs { scope.now.inputs ≤ length scope.now.declared }
     ensures met { IfOk result (HasMet (scope_in scope.now) (met_before points)) }
     ensures fault { IfErr result (λ e. e ≡ CheckFault.NoMemory) }

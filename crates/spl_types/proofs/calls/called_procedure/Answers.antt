@@ -16,7 +16,7 @@ has_counts-counts-requires-clause-there c =
     let x = name_of (names_in t) c.args.called in
     let at = ap (λ y. number_in y s.procs.now) (sym c.name.ensures) ∙ sym c.in-Some.ensures in
     let found = proc_found (procs_in t) s.procs.now x c.in-Some.number no_proc c.requires.procs at in
-    omega (arith, found.0, (c.law_numbers.ensures t c.proc_count-all.ensures.known).0.procs)
+    omega (arith, found.0, (c.law_tree.ensures.numbers t c.law_tree.ensures.known).0.procs)
 
 pub returns-in-None : goal.returns-in-None
 returns-in-None c =

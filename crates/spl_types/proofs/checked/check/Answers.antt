@@ -18,28 +18,28 @@ unfolding program_of
 returns-in_err-_points-clause-broken c =
     let t = c.args.tree.now in
     let p = program_of t in
-    let count = c.proc_count.ensures.count ∙ sym (c.law_numbers.ensures t c.proc_count.ensures.known).0.procs in
+    let count = c.proc_count.ensures.count ∙ sym (c.law_tree.ensures.numbers t c.law_tree.ensures.known).0.procs in
     let main = c.routine_at-main.ensures.stands ∙ at_main (procs_in t) (main_procedure p) c.proc_count.result count in
-    exit_fault p c.from_residual-in_err-_points.result _ c.from_residual-in_err-_points.ensures.1 (fault_of_main p c.in_ok-points.points (routine_in t c.routine_at-main.result) _ c.in_ok-points.ensures.1.0 main c.in_ok-points.ensures.0 c.in_err-_points.ensures)
+    exit_fault p c.from_residual-in_err-_points.result _ c.from_residual-in_err-_points.ensures.1 (fault_of_main p c.in_ok-points.points (routine_in t c.routine_at-main.result) _ c.in_ok-points.ensures.1.points main c.in_ok-points.ensures.0 c.in_err-_points.ensures)
 
 pub invariant_of-result : goal.invariant_of-result
 unfolding program_of
 invariant_of-result c =
     let t = c.args.tree.now in
     let p = program_of t in
-    let count = c.proc_count.ensures.count ∙ sym (c.law_numbers.ensures t c.proc_count.ensures.known).0.procs in
+    let count = c.proc_count.ensures.count ∙ sym (c.law_tree.ensures.numbers t c.law_tree.ensures.known).0.procs in
     let main = c.routine_at-main.ensures.stands ∙ at_main (procs_in t) (main_procedure p) c.proc_count.result count in
     let w = c.in_ok-_points.field-0 in
-    let all = all_kept p c.in_ok-points.points (routine_in t c.routine_at-main.result) c.procedures.new.procs.items w c.in_ok-points.ensures.1.0 main c.in_ok-points.ensures.0 c.in_ok-_points.ensures in
-    let stored = all_stored p c.procedures.new.procs.items c.store.new.procs.items w all c.in_ok-points.ensures.1.3 c.in_ok-store.ensures.stored in
-    record { tree = c.proc_count.ensures.known; accepted = accepted p c.procedures.new.procs.items c.store.new.procs.items w all c.in_ok-points.ensures.1.2 stored; copies = stored }
+    let all = all_kept p c.in_ok-points.points (routine_in t c.routine_at-main.result) c.procedures.new.procs.items w c.in_ok-points.ensures.1.points main c.in_ok-points.ensures.0 c.in_ok-_points.ensures in
+    let stored = all_stored p c.procedures.new.procs.items c.store.new.procs.items w all c.in_ok-points.ensures.1.copies c.in_ok-store.ensures.stored in
+    record { tree = c.law_tree.ensures.known; accepted = accepted p c.procedures.new.procs.items c.store.new.procs.items w all c.in_ok-points.ensures.1.few_procs stored; copies = stored }
 
 pub returns-clause-accepted : goal.returns-clause-accepted
 unfolding program_of
 returns-clause-accepted c =
     let t = c.args.tree.now in
     let p = program_of t in
-    let count = c.proc_count.ensures.count ∙ sym (c.law_numbers.ensures t c.proc_count.ensures.known).0.procs in
+    let count = c.proc_count.ensures.count ∙ sym (c.law_tree.ensures.numbers t c.law_tree.ensures.known).0.procs in
     let main = c.routine_at-main.ensures.stands ∙ at_main (procs_in t) (main_procedure p) c.proc_count.result count in
-    let all = all_kept p c.in_ok-points.points (routine_in t c.routine_at-main.result) c.procedures.new.procs.items c.in_ok-_points.field-0 c.in_ok-points.ensures.1.0 main c.in_ok-points.ensures.0 c.in_ok-_points.ensures in
+    let all = all_kept p c.in_ok-points.points (routine_in t c.routine_at-main.result) c.procedures.new.procs.items c.in_ok-_points.field-0 c.in_ok-points.ensures.1.points main c.in_ok-points.ensures.0 c.in_ok-_points.ensures in
     (refl, all.unbroken)

@@ -17,7 +17,7 @@ returns-in_err-demand c = λ d.
     let t = c.args.tree.now in
     let earlier = proc_names (take c.args.p (procs_in t)) in
     let x = proc_over (names_in t) (decls_in t) t.stmt_items (stmts_in t) c.proc_node.result.0 c.proc_node.result.1 in
-    let count = length-names (procs_in t) c.args.p (omega (arith, c.requires.there, (c.law_numbers.ensures t c.proc_count-all.ensures.known).0.procs)) in
+    let count = length-names (procs_in t) c.args.p (omega (arith, c.requires.there, (c.law_tree.ensures.numbers t c.law_tree.ensures.known).0.procs)) in
     let P : ProcMeaning → Type 0 = λ y. AnswersWith c.from_residual.result (named_checks (procs_in t) earlier c.args.points y) (λ w. (c.args.p < 256) × HasMet (scope_of (procs_in t) (procedure_of y)) (met_by_end c.args.points (procedure_of y)) w) in
     subst P (sym (c.proc_node.ensures.stands d)) (faulted_exit _ _ _ (named_checks (procs_in t) earlier c.args.points x) c.from_residual.ensures.1 (too_many (procs_in t) earlier c.args.points c.args.p x _ count c.in_err-demand.ensures))
 
@@ -29,7 +29,7 @@ returns-in_err-demand-2 c = λ d.
     let t = c.args.tree.now in
     let earlier = proc_names (take c.args.p (procs_in t)) in
     let x = proc_over (names_in t) (decls_in t) t.stmt_items (stmts_in t) c.proc_node.result.0 c.proc_node.result.1 in
-    let count = length-names (procs_in t) c.args.p (omega (arith, c.requires.there, (c.law_numbers.ensures t c.proc_count-all.ensures.known).0.procs)) in
+    let count = length-names (procs_in t) c.args.p (omega (arith, c.requires.there, (c.law_tree.ensures.numbers t c.law_tree.ensures.known).0.procs)) in
     let fresh = c.is_first-first.ensures ∙ ap (λ n. not (is_among n earlier)) c.name.ensures in
     let P : ProcMeaning → Type 0 = λ y. AnswersWith c.from_residual-in_err-demand-2.result (named_checks (procs_in t) earlier c.args.points y) (λ w. (c.args.p < 256) × HasMet (scope_of (procs_in t) (procedure_of y)) (met_by_end c.args.points (procedure_of y)) w) in
     subst P (sym (c.proc_node.ensures.stands d)) (faulted_exit _ _ _ (named_checks (procs_in t) earlier c.args.points x) c.from_residual-in_err-demand-2.ensures.1 (duplicate (procs_in t) earlier c.args.points c.args.p x c.is_first-first.result _ count fresh c.in_ok-demand.ensures c.in_err-demand-2.ensures))
@@ -40,7 +40,7 @@ returns c = λ d.
     let t = c.args.tree.now in
     let earlier = proc_names (take c.args.p (procs_in t)) in
     let x = proc_over (names_in t) (decls_in t) t.stmt_items (stmts_in t) c.proc_node.result.0 c.proc_node.result.1 in
-    let procs = (c.law_numbers.ensures t c.proc_count-all.ensures.known).0.procs in
+    let procs = (c.law_tree.ensures.numbers t c.law_tree.ensures.known).0.procs in
     let count = length-names (procs_in t) c.args.p (omega (arith, c.requires.there, procs)) in
     let fresh = c.is_first-first.ensures ∙ ap (λ n. not (is_among n earlier)) c.name.ensures in
     let own = c.routine_at-routine.ensures.stands ∙ (at_proc (procs_in t) (main_procedure (program_of t)) c.args.p (omega (arith, c.requires.there, procs)) ∙ ap (λ (q : ProcMeaning). procedure_of q) (c.proc_node.ensures.stands no_proc)) in

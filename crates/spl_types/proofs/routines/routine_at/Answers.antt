@@ -13,14 +13,14 @@ pub returns-then-p-proc_count-clause-stands : goal.returns-then-p-proc_count-cla
 unfolding program_of
 returns-then-p-proc_count-clause-stands c =
     let t = c.args.tree.now in
-    let count = (c.law_numbers.ensures t c.proc_count.ensures.known).0.procs in
+    let count = (c.law_tree.ensures.numbers t c.law_tree.ensures.known).0.procs in
     sym (at_proc (procs_in t) (main_procedure (program_of t)) c.args.p (omega (arith, count, c.proc_count.ensures.count)) ∙ ap (λ (q : ProcMeaning). procedure_of q) (c.proc_node.ensures.stands no_proc))
 
 pub returns-clause-stands : goal.returns-clause-stands
 unfolding program_of
 returns-clause-stands c =
     let t = c.args.tree.now in
-    let count = (c.law_numbers.ensures t c.proc_count.ensures.known).0.procs in
+    let count = (c.law_tree.ensures.numbers t c.law_tree.ensures.known).0.procs in
     let ds = decls_in t in
     let body : Block → BlockTree = λ b. block_over t.stmt_items (stmts_in t) b in
     let R : MainTree → ℕ → Procedure = λ m n. record { inputs = []; outputs = []; locals = decls_over ds m.locals; begin = n; body = body m.body } in

@@ -12,7 +12,7 @@ pub index-copies-requires : goal.index-copies-requires
 unfolding program_of
 index-copies-requires c =
     let t = c.self.inside.tree.now in
-    let count = (c.law_numbers.ensures t c.self.invariant.tree).0.procs in
+    let count = (c.law_tree.ensures.numbers t c.self.invariant.tree).0.procs in
     let le : c.args.p ≤ length (procs_in t) = omega (arith, count, c.requires, ap (λ (l : Lists). length l.procs) c.self.view_is) in
     let q = at_copies (program_of t) c.self.inside.procs.items c.args.p ([], 0) c.self.invariant.copies le in
     omega (arith, q.0, c.self.inside.procs.ok.0)
@@ -21,7 +21,7 @@ pub returns-clause-count : goal.returns-clause-count
 unfolding program_of dimensions
 returns-clause-count c =
     let t = c.self.inside.tree.now in
-    let count = (c.law_numbers.ensures t c.self.invariant.tree).0.procs in
+    let count = (c.law_tree.ensures.numbers t c.self.invariant.tree).0.procs in
     let le : c.args.p ≤ length (procs_in t) = omega (arith, count, c.requires, ap (λ (l : Lists). length l.procs) c.self.view_is) in
     let items = c.self.inside.procs.items in
     let q = at_copies (program_of t) items c.args.p ([], 0) c.self.invariant.copies le in

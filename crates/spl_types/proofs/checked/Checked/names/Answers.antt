@@ -14,7 +14,7 @@ pub index-copies-requires : goal.index-copies-requires
 unfolding program_of
 index-copies-requires c =
     let t = c.self.inside.tree.now in
-    let count = (c.law_numbers.ensures t c.self.invariant.tree).0.procs in
+    let count = (c.law_tree.ensures.numbers t c.self.invariant.tree).0.procs in
     let le : c.args.p ≤ length (procs_in t) = omega (arith, count, c.requires, ap (λ (l : Lists). length l.procs) c.self.view_is) in
     let q = at_copies (program_of t) c.self.inside.procs.items c.args.p ([], 0) c.self.invariant.copies le in
     omega (arith, q.0, c.self.inside.procs.ok.0)
@@ -23,7 +23,7 @@ pub all_names-requires-clause-flags : goal.all_names-requires-clause-flags
 unfolding program_of
 all_names-requires-clause-flags c =
     let t = c.self.inside.tree.now in
-    let count = (c.law_numbers.ensures t c.self.invariant.tree).0.procs in
+    let count = (c.law_tree.ensures.numbers t c.self.invariant.tree).0.procs in
     let le : c.args.p ≤ length (procs_in t) = omega (arith, count, c.requires, ap (λ (l : Lists). length l.procs) c.self.view_is) in
     let items = c.self.inside.procs.items in
     let q = at_copies (program_of t) items c.args.p ([], 0) c.self.invariant.copies le in
@@ -35,7 +35,7 @@ pub of-requires : goal.of-requires
 unfolding program_of dimensions
 of-requires c =
     let t = c.self.inside.tree.now in
-    let count = (c.law_numbers.ensures t c.self.invariant.tree).0.procs in
+    let count = (c.law_tree.ensures.numbers t c.self.invariant.tree).0.procs in
     let le : c.args.p ≤ length (procs_in t) = omega (arith, count, c.requires, ap (λ (l : Lists). length l.procs) c.self.view_is) in
     let names = c.in_ok-names.ensures ∙ ap dimensions_of c.routine_at.ensures.stands in
     omega (arith, ap length names, length-map c.in_ok-names.names.items (λ (n : Vec ℕ Global). n.items), c.self.invariant.accepted.dims c.args.p le)

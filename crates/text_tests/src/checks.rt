@@ -1,8 +1,8 @@
 //! Programs whose answers were worked out by hand.
 
-use crate::{CheckFault, Checked, check};
 use spl_parser::parse;
 use spl_text::{place_of, tokens};
+use spl_types::{CheckFault, Checked, check};
 use std::alloc::{AllocError, Global};
 use std::process::Abort;
 use std::test::Fail;

@@ -1,0 +1,6 @@
+//! Tests of the crates on texts that start from a text: what they read is made by the parser, on which those crates
+//! don't stand.
+#![tactic(auto)]
+
+#[cfg(test)]
+mod checks;
