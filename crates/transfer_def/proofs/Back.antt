@@ -7,7 +7,7 @@ use Rattle.std.proofs.lemmas.Bool.{cases_eq}
 use Rattle.std.proofs.lemmas.List.{get_or-take, get_or-drop, get_or_append_left, get_or-append_right, length-take-le, length-drop}
 use Rattle.std.proofs.lemmas.List.Elements.{All-get_or}
 use Rattle.oct_def.specs.Bound.{Bound, Within, InRange}
-use Rattle.oct_def.specs.Table.{Matrix, table, at}
+use Rattle.oct_def.specs.Table.{Matrix, at}
 use Rattle.oct_def.specs.Matrix.{opposite, value_at, signed_value, IsMatrix, IsEvenMatrix, Meets, MeetsValue}
 use Rattle.oct_def.specs.Tight.{tight}
 use Rattle.oct_def.specs.Octagon.{Octagon, IsOctagon, IsValueOver, MeetsOctagon, on_both}
@@ -16,7 +16,7 @@ use Rattle.oct_def.proofs.Indices.{opposite_below, opposite_same, opposite_twice
 use Rattle.oct_def.proofs.Tables.{length-table, square-table}
 use Rattle.oct_def.proofs.Sound.{difference, meets-table, meets-tight}
 use Rattle.oct_def.proofs.Coherent.{coherent-table}
-use Rattle.oct_def.proofs.Values.{IsShape, IsLow, low, LowDiagonal, shape-matrix, in_range-least, each-table, value-tight_low}
+use Rattle.oct_def.proofs.Values.{IsShape, low, LowDiagonal, shape-matrix, in_range-least, each-table, value-tight_low}
 use Rattle.oct_def.proofs.Lattice.{meets-least_matrix, shape-least_matrix, low_diagonal-least_matrix}
 use Rattle.spl_core.specs.Expression.{State}
 use Rattle.spl_core.specs.Facts.{AreDistinct}

@@ -1,11 +1,11 @@
 -- The callee's first state meets the value at its entry, which is a value where the caller's is one.
-use Rattle.std.proofs.Common.{◌≡◌, ◌≢◌, ◌⊎◌, inl, inr, ⊎_elim, ℕ, ◌+◌, ◌*◌, ◌/◌, ◌%◌, ◌<◌, ◌≤◌, ◌&&◌, Bool, true, false, cond, List, length, get_or, map, take, ℤ, pos, Option, Some, None, refl, sym, ap, subst, arith, nat_eq, nat_lt, ◌∙◌, ltb-true, lt-ltb, le-ltb, eqb-true, eq-eqb, ne_eqb}
+use Rattle.std.proofs.Common.{◌≡◌, ◌≢◌, ◌⊎◌, inl, inr, ⊎_elim, ℕ, ◌+◌, ◌*◌, ◌/◌, ◌%◌, ◌<◌, ◌≤◌, ◌&&◌, Bool, true, false, cond, List, length, get_or, take, ℤ, pos, Some, None, refl, sym, ap, subst, arith, nat_eq, nat_lt, ◌∙◌, ltb-true, lt-ltb, le-ltb, eqb-true, eq-eqb, ne_eqb}
 use Rattle.std.proofs.lemmas.Int.{ints}
 use Rattle.std.proofs.lemmas.Bool.{cases_eq, and_left, and_right}
 use Rattle.std.proofs.lemmas.List.{get_or-take, get_or-map}
 use Rattle.oct_def.specs.Bound.{Bound, Within, InRange, IsEven}
-use Rattle.oct_def.specs.Table.{Matrix, table, at}
-use Rattle.oct_def.specs.Matrix.{opposite, value_at, signed_value, IsMatrix, IsEvenMatrix, Meets}
+use Rattle.oct_def.specs.Table.{Matrix, at}
+use Rattle.oct_def.specs.Matrix.{opposite, value_at, signed_value, IsEvenMatrix, Meets}
 use Rattle.oct_def.specs.Octagon.{Octagon, IsOctagon, MeetsOctagon}
 use Rattle.oct_def.proofs.Indices.{opposite_below, opposite_same}
 use Rattle.oct_def.proofs.Tables.{length-table, at-table, square-table, at-past_row, at-past_column}

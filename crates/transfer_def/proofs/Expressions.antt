@@ -5,9 +5,8 @@ use Rattle.std.proofs.lemmas.Bool.{cases_eq}
 use Rattle.oct_def.specs.Bound.{top_limit}
 use Rattle.oct_def.specs.Table.{Matrix, table}
 use Rattle.oct_def.specs.Matrix.{IsMatrix}
-use Rattle.oct_def.specs.Tight.{tight}
 use Rattle.oct_def.proofs.Bounds.{clamped-in_range}
-use Rattle.spl_core.specs.Expression.{Expression, Number, Variable, Neg, Add, Sub}
+use Rattle.spl_core.specs.Expression.{Number, Variable, Neg, Add, Sub}
 use Rattle.interval_form.specs.declared.interval.Interval.{Interval}
 use Rattle.interval_form.specs.Interval.{IsOutward, point, negated, sum_of, difference_of, ranges_of}
 use Rattle.interval_form.specs.Form.{Form, nothing, coefficient, form_of, has_unbounded_term}

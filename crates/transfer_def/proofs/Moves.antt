@@ -1,5 +1,5 @@
 -- The successor of a state by a move meets the value after it, which is a value over as many variables.
-use Rattle.std.proofs.Common.{◌≡◌, ℕ, ◌<◌, Bool, true, false, List, [], ◌∷◌, length, Option, Some, None, refl, sym, ap, subst, ◌∙◌, length-set}
+use Rattle.std.proofs.Common.{◌≡◌, ℕ, Bool, true, false, List, [], ◌∷◌, length, Option, Some, None, refl, sym, ap, subst, ◌∙◌, length-set}
 use Rattle.std.specs.List.{All}
 use Rattle.std.proofs.lemmas.List.Elements.{All-head, All-tail}
 use Rattle.oct_def.specs.Table.{Matrix}
@@ -10,7 +10,7 @@ use Rattle.spl_core.specs.declared.parts.Cmp.TheVariants as cmp
 use Rattle.spl_core.specs.Expression.{Expression, Variable, State, value_of, eval}
 use Rattle.spl_core.specs.Condition.{Condition, Constant, Random, Not, And, Or, Compare}
 use Rattle.spl_core.specs.Graph.{Copy, Move, skips, assigns, havocs, tests, calls, starts}
-use Rattle.spl_core.specs.GraphFacts.{CopyFits, MoveFits}
+use Rattle.spl_core.specs.GraphFacts.{MoveFits}
 use Rattle.spl_runs.specs.Runs.{copied, Flow}
 use Rattle.transfer_def.specs.Assign.{assign_value}
 use Rattle.transfer_def.specs.Forget.{forget_value}

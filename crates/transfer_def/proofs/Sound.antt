@@ -1,16 +1,16 @@
 -- The successor of a state that meets a matrix meets the matrix after an assignment.
-use Rattle.std.proofs.Common.{◌≡◌, ◌⊎◌, ◌≢◌, ℕ, ◌+◌, ◌*◌, ◌/◌, ◌%◌, ◌<◌, ◌++◌, ◌∷◌, ◌||◌, ◌&&◌, Bool, true, false, cond, List, [], length, set, get_or, ℤ, pos, ◌+ℤ◌, ◌-ℤ◌, ◌*ℤ◌, ◌≤ℤ◌, Option, Some, None, refl, sym, ap, subst, length-set, inl, inr, ⊎_elim, arith, nat_eq, nat_lt, ◌∙◌, get_or-set_same, ltb-true, eqb-true, eq-eqb, ne_eqb, length-append, add-one}
+use Rattle.std.proofs.Common.{◌≡◌, ◌⊎◌, ℕ, ◌+◌, ◌*◌, ◌/◌, ◌<◌, ◌++◌, ◌∷◌, ◌||◌, Bool, true, false, cond, List, [], length, set, get_or, ℤ, pos, ◌+ℤ◌, ◌-ℤ◌, ◌*ℤ◌, ◌≤ℤ◌, refl, sym, ap, subst, inl, inr, arith, nat_eq, ◌∙◌, length-append, add-one}
 use Rattle.std.specs.Option.{option_and_then}
 use Rattle.std.proofs.lemmas.Int.{ints}
-use Rattle.std.proofs.lemmas.Bool.{eqb-false, or_parts, cases_eq}
+use Rattle.std.proofs.lemmas.Bool.{eqb-false, or_parts}
 use Rattle.std.proofs.lemmas.List.{get_or_append_left, get_or_at}
 use Rattle.oct_def.specs.Bound.{Within}
 use Rattle.oct_def.specs.Table.{Matrix, at}
-use Rattle.oct_def.specs.Matrix.{value_at, signed_value, Meets, MeetsValue}
+use Rattle.oct_def.specs.Matrix.{value_at, Meets, MeetsValue}
 use Rattle.oct_def.specs.Tight.{tight}
 use Rattle.oct_def.specs.Octagon.{Octagon, MeetsOctagon, top_entry}
 use Rattle.oct_def.proofs.Sound.{difference, meets-table, meets-tight}
-use Rattle.spl_core.specs.Expression.{Expression, Variable, IsOver, eval}
+use Rattle.spl_core.specs.Expression.{Expression, IsOver, eval}
 use Rattle.interval_form.specs.Interval.{Holds, InRanges, unbounded, range_at, ranges_of}
 use Rattle.interval_form.specs.Form.{Form, nothing, coefficient, Reads, weighted_sum}
 use Rattle.interval_form.specs.Linear.{linear_form, variable_form, difference_form}
@@ -26,7 +26,7 @@ use Rattle.transfer_def.specs.Assign.{extended_ranges, form_minus_new, new_minus
 use Rattle.transfer_def.specs.Forget.{forgotten_entry, forgotten, forget_value}
 use Rattle.transfer_def.proofs.Lifts.{meets-and_then, meets-mapped}
 use Rattle.transfer_def.proofs.Dimensions.{within-top_entry, meets-extended, meets-moved}
-use Rattle.transfer_def.proofs.States.{grown, value_at-grown, value_at-grown_last, signed_value-same, signed_value-grown, signed_value-set_other, weighted_sum-grown}
+use Rattle.transfer_def.proofs.States.{grown, value_at-grown, value_at-grown_last, signed_value-set_other, weighted_sum-grown}
 
 -- ---- the ranges of one more variable
 

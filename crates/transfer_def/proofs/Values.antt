@@ -1,16 +1,15 @@
 -- An assignment and a random assignment give a value where they are given one.
-use Rattle.std.proofs.Common.{◌≡◌, ◌⊎◌, ◌≢◌, ℕ, ◌+◌, ◌*◌, ◌/◌, ◌<◌, ◌≤◌, ◌||◌, ◌&&◌, Bool, true, false, cond, List, [], ◌∷◌, length, pos, Option, Some, None, refl, sym, ap, subst, inl, inr, ⊎_elim, arith, nat_eq, nat_lt, ◌∙◌, le-ltb, lt-ltb, eq-eqb, ne_eqb}
+use Rattle.std.proofs.Common.{◌≡◌, ◌⊎◌, ℕ, ◌+◌, ◌*◌, ◌/◌, ◌<◌, ◌||◌, Bool, true, false, cond, List, [], ◌∷◌, length, pos, Option, Some, None, refl, sym, subst, inl, inr, arith, nat_eq, ◌∙◌}
 use Rattle.std.specs.Option.{option_and_then}
 use Rattle.oct_def.specs.Bound.{Bound, InRange, IsEven}
-use Rattle.oct_def.specs.Table.{Matrix, table, at}
+use Rattle.oct_def.specs.Table.{Matrix, at}
 use Rattle.oct_def.specs.Matrix.{opposite, IsCoherent, IsMatrix, IsEvenMatrix}
 use Rattle.oct_def.specs.Tight.{tight}
 use Rattle.oct_def.specs.Octagon.{Octagon, IsOctagon, IsValueOver, top_entry}
-use Rattle.oct_def.proofs.Indices.{opposite_below, opposite_same}
-use Rattle.oct_def.proofs.Tables.{length-table, at-table, square-table, at-past_row}
+use Rattle.oct_def.proofs.Tables.{length-table, at-table, square-table}
 use Rattle.oct_def.proofs.Coherent.{coherent-table, twin}
 use Rattle.oct_def.proofs.Values.{each-table, value-tight}
-use Rattle.spl_core.specs.Expression.{Expression, Variable}
+use Rattle.spl_core.specs.Expression.{Expression}
 use Rattle.interval_form.specs.declared.interval.Interval.{Interval}
 use Rattle.interval_form.specs.Form.{Form}
 use Rattle.interval_form.specs.FormBounds.{bounded}

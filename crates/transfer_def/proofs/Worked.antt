@@ -1,7 +1,7 @@
 -- The worked values, computed.
 use Rattle.std.proofs.Common.{refl}
 use Rattle.oct_def.specs.Table.{table, at, some_index}
-use Rattle.oct_def.specs.Octagon.{top_entry, top_matrix, top_value, bottom_value, tight_value, join_value, join_matrix, join_entry, widen_value, widen_matrix, widen_entry, narrow_value, narrow_matrix, narrow_entry, least_matrix as joined_bounds, least_entry as joined_bound}
+use Rattle.oct_def.specs.Octagon.{top_entry, top_matrix, top_value, bottom_value, join_value, join_matrix, join_entry, widen_value, widen_matrix, widen_entry, narrow_value, narrow_matrix, narrow_entry, least_matrix as joined_bounds, least_entry as joined_bound}
 use Rattle.oct_def.specs.Tight.{path, long_path, pivot_entry, pair_entry, pair_step, pair_steps, closure, negative_cycle, has_negative_cycle, even_entry, evening, crossing, has_crossing, strong_entry, strengthening, tight_even, tight_closed, tight}
 use Rattle.interval_form.specs.Interval.{negated, sum_of, difference_of, times, lesser, greater, least_product, greatest_product, product_of, range_of, ranges_of, range_at}
 use Rattle.interval_form.specs.Form.{coefficient, form_of, value_up_to, form_value, has_term, has_terms, has_unbounded_term, has_unbounded_terms}

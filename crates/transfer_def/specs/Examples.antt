@@ -3,7 +3,6 @@ use Rattle.std.specs.Prelude.{◌≡◌, List, [], ◌∷◌, Some, None, ℤ, p
 use Rattle.oct_def.specs.Bound.{Bound, low_limit}
 use Rattle.oct_def.specs.Octagon.{Octagon, top_value}
 use Rattle.spl_core.specs.Expression.{Number, Variable, Add}
-use Rattle.spl_core.specs.Graph.{Copy}
 use Rattle.transfer_def.specs.Assign.{assign_value}
 use Rattle.transfer_def.specs.Forget.{forget_value}
 use Rattle.transfer_def.specs.Move.{copy_value}

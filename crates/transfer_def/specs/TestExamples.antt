@@ -1,5 +1,5 @@
 -- Worked tests, one for each line of the table of tests, and the lattice, on values over a variable x.
-use Rattle.std.specs.Prelude.{◌≡◌, ℕ, true, false, [], ◌∷◌, Some, None, ℤ, pos, ◌+ℤ◌, neg_ℤ}
+use Rattle.std.specs.Prelude.{◌≡◌, ℕ, true, false, Some, None, ℤ, pos, ◌+ℤ◌, neg_ℤ}
 use Rattle.oct_def.specs.Octagon.{Octagon, bottom_value, top_value, join_value, widen_value, narrow_value}
 use Rattle.spl_core.specs.declared.parts.Cmp.{Cmp}
 use Rattle.spl_core.specs.declared.parts.Cmp.TheVariants as cmp

@@ -2,7 +2,7 @@ use Rattle.std.proofs.Common.{◌≡◌, ◌+◌, ◌*◌, ap, sym, ◌∙◌, a
 use Rattle.std.specs.Prelude.{◌+ℤ◌, neg_ℤ}
 use Rattle.std.proofs.lemmas.Int.{ints, to_z-of_z}
 use Rattle.oct_def.specs.Bound.{bound_of, least, clamp}
-use Rattle.transfer_def.specs.Assign.{extended_entry}
+use Rattle.transfer_def.specs.Dimensions.{extended_entry}
 use Rattle.transfer_def.specs.Special.{twice_entry, constant_entry}
 use Rattle.oct_def.proofs.Tables.{is-table}
 use Rattle.full_oct.proofs.Equations.{passed, clamp_same}

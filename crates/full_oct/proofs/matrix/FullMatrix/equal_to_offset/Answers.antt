@@ -2,7 +2,7 @@ use Rattle.std.proofs.Common.{◌≡◌, ◌+◌, ◌*◌, ap, sym, ◌∙◌, a
 use Rattle.std.proofs.lemmas.Int.{to_z-of_z}
 use Rattle.std.specs.Int.{w64}
 use Rattle.oct_def.specs.Bound.{bound_of, least}
-use Rattle.transfer_def.specs.Assign.{extended_entry}
+use Rattle.transfer_def.specs.Dimensions.{extended_entry}
 use Rattle.transfer_def.specs.Special.{twice_entry, sum_entry, offset_entry}
 use Rattle.oct_def.proofs.Tables.{is-table}
 use Rattle.full_oct.proofs.Equations.{passed, offset_of}
