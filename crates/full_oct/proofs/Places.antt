@@ -126,3 +126,16 @@ words_same s t xs ys m n em en f g h =
     let sizes : t ≡ s = rows_of t ys n en ∙ ap length (sym h) ∙ sym (rows_of s xs m em) in
     let same : matrix_of s xs ≡ matrix_of s ys = em ∙ h ∙ sym en ∙ ap (λ k. matrix_of k ys) sizes in
     ext_get_or (pos 0) xs ys (f.filled ∙ ap (λ k. k * k) (sym sizes) ∙ sym g.filled) (λ k lt. word_same s xs ys k f.filled lt same)
+
+-- ---- lists filled element by element
+
+-- what holds of each element, and of one more behind them, holds of each element of both
+pub each_more : {A : Type 0} (P : ℕ → A → Type 0) (d : A) (xs next : List A) (w : A) → ((k : ℕ) → k < length xs → P k (get_or xs k d)) → P (length xs) w → next ≡ xs ++ w ∷ [] → (k : ℕ) → k < length next → P k (get_or next k d)
+each_more P d xs next w h e en k lt = rw en (by cases)
+  where
+    cases : (k < length xs) ⊎ (k ≡ length xs)
+    cases = let l = ap length en ∙ length-append xs (w ∷ []) in grind (arith, l)
+
+    by : (k < length xs) ⊎ (k ≡ length xs) → P k (get_or (xs ++ w ∷ []) k d)
+    by (inl p) = subst (P k) (sym (get_or_append_left xs (w ∷ []) d k p)) (h k p)
+    by (inr p) = subst (P k) (sym (get_or_push xs w d k (sym p))) (subst (λ i. P i w) (sym p) e)

@@ -1,5 +1,5 @@
 -- Values of the plain domain, from the matrices of the code.
-use Rattle.std.proofs.Common.{◌≡◌, ℕ, [], ◌∷◌, ◌+◌, ◌*◌, ◌<◌, Option, Some, None, length, sym, ap, ◌∙◌, subst}
+use Rattle.std.proofs.Common.{◌≡◌, ℕ, [], ◌∷◌, ◌+◌, ◌*◌, ◌<◌, List, Option, Some, None, length, sym, ap, ◌∙◌, subst}
 use Rattle.std.specs.Prelude.{pos, ◌≤ℤ◌}
 use Rattle.std.specs.Option.{option_map, option_and_then}
 use Rattle.oct_def.specs.Bound.{top_limit}
@@ -11,6 +11,10 @@ use Rattle.oct_def.proofs.Lattice.{octagon-top, octagon-join, octagon-widen, oct
 use Rattle.oct_def.proofs.Values.{value-tight}
 use Rattle.spl_core.specs.Expression.{Expression, Number, Variable, Add}
 use Rattle.transfer_def.specs.Dimensions.{moved}
+use Rattle.transfer_def.specs.Enter.{enter_matrix, enter_value}
+use Rattle.transfer_def.specs.Back.{joined, back_value}
+use Rattle.transfer_def.proofs.Enter.{value-enter_value}
+use Rattle.transfer_def.proofs.Back.{value-back_value}
 use Rattle.transfer_def.specs.Assign.{equated, assigned, assign_value}
 use Rattle.transfer_def.specs.Special.{constant_entry, offset_entry}
 use Rattle.transfer_def.proofs.Expressions.{equated-number, equated-variable, equated-plus}
@@ -99,6 +103,47 @@ pub narrow_even : (d e : ℕ) (m n r : Matrix) (a b : Octagon) → octagon_of d 
 unfolding narrow_value
 narrow_even d e m n r a b ea eb h hm hn er =
     subst (IsEvenMatrix d) (sym er) (octagon-narrow (octagon_of d (Some m)) (octagon_of e (Some n)) hm hn (same_dims d e n a b m ea eb h))
+
+-- ---- calls and returns
+
+pub enter_bottom : (d k : ℕ) (args : List ℕ) (v w : Octagon) → octagon_of d None ≡ v → w ≡ bottom_value k → w ≡ enter_value v args k
+unfolding enter_value bottom_value
+enter_bottom d k args v w e h = h ∙ ap (λ (t : Octagon). octagon_of k (option_map (enter_matrix args k) t.matrix)) e
+
+pub enter_even : (d k : ℕ) (args : List ℕ) (m r : Matrix) → IsEvenMatrix d m → r ≡ enter_matrix args k m → IsEvenMatrix k r
+unfolding enter_value
+enter_even d k args m r h e = subst (IsEvenMatrix k) (sym e) (value-enter_value (octagon_of d (Some m)) args k h)
+
+pub enter_is : (d k : ℕ) (args : List ℕ) (m r : Matrix) (v w : Octagon) → octagon_of d (Some m) ≡ v → r ≡ enter_matrix args k m → w ≡ octagon_of k (Some r) → w ≡ enter_value v args k
+unfolding enter_value
+enter_is d k args m r v w e er h = h ∙ ap (λ t. octagon_of k (Some t)) er ∙ ap (λ (t : Octagon). octagon_of k (option_map (enter_matrix args k) t.matrix)) e
+
+-- the matrix after the call, from those before it and at the exit
+abbrev back_matrix : ℕ → List ℕ → ℕ → List ℕ → Option Matrix → Option Matrix → Option Matrix
+back_matrix d args outputs targets m x = option_map (moved d targets) (option_and_then tight (on_both (joined d args outputs) m x))
+
+pub back_first : (d : ℕ) (args : List ℕ) (outputs : ℕ) (targets : List ℕ) (a b v : Octagon) → octagon_of d None ≡ a → v ≡ bottom_value d → v ≡ back_value a b args outputs targets
+unfolding back_value bottom_value
+back_first d args outputs targets a b v ea h = h ∙ ap (λ (t : Octagon). octagon_of t.dims (back_matrix t.dims args outputs targets t.matrix b.matrix)) ea
+
+pub back_second : (d e : ℕ) (m : Matrix) (args : List ℕ) (outputs : ℕ) (targets : List ℕ) (a b v : Octagon) → octagon_of d (Some m) ≡ a → octagon_of e None ≡ b → v ≡ bottom_value d → v ≡ back_value a b args outputs targets
+unfolding back_value bottom_value
+back_second d e m args outputs targets a b v ea eb h =
+    h ∙ ap (λ (t : Octagon). octagon_of d (back_matrix d args outputs targets (Some m) t.matrix)) eb
+    ∙ ap (λ (t : Octagon). octagon_of t.dims (back_matrix t.dims args outputs targets t.matrix b.matrix)) ea
+
+pub back_even : (d e : ℕ) (m x j : Matrix) (r : Option Matrix) (args : List ℕ) (outputs : ℕ) (targets : List ℕ) → IsEvenMatrix d m → IsEvenMatrix e x → length targets ≡ outputs → j ≡ joined d args outputs m x → r ≡ option_map (moved d targets) (tight j) → IsValueOver d r
+unfolding back_value
+back_even d e m x j r args outputs targets hm hx h ej er =
+    subst (IsValueOver d) (sym (er ∙ ap (λ k. option_map (moved d targets) (tight k)) ej))
+    (value-back_value (octagon_of d (Some m)) (octagon_of e (Some x)) args outputs targets h hm hx)
+
+pub back_is : (d e : ℕ) (m x j : Matrix) (r : Option Matrix) (args : List ℕ) (outputs : ℕ) (targets : List ℕ) (a b v : Octagon) → octagon_of d (Some m) ≡ a → octagon_of e (Some x) ≡ b → j ≡ joined d args outputs m x → r ≡ option_map (moved d targets) (tight j) → v ≡ octagon_of d r → v ≡ back_value a b args outputs targets
+unfolding back_value
+back_is d e m x j r args outputs targets a b v ea eb ej er h =
+    h ∙ ap (octagon_of d) (er ∙ ap (λ k. option_map (moved d targets) (tight k)) ej)
+    ∙ ap (λ (t : Octagon). octagon_of d (back_matrix d args outputs targets (Some m) t.matrix)) eb
+    ∙ ap (λ (t : Octagon). octagon_of t.dims (back_matrix t.dims args outputs targets t.matrix b.matrix)) ea
 
 -- ---- assignments
 

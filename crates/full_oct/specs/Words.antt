@@ -1,6 +1,6 @@
 -- What a full matrix of words stands for.
 use Rattle.std.specs.Prelude.{◌≡◌, ℕ, ◌+◌, ◌*◌, ◌%◌, ◌<◌, ◌≤◌, ◌&&◌, nat_eq, List, length, ℤ, pos, slice_index_or, if◌then◌else◌}
-use Rattle.oct_def.specs.Bound.{Bound, bound_of}
+use Rattle.oct_def.specs.Bound.{Bound, bound_of, least}
 use Rattle.oct_def.specs.Table.{Matrix, table, at}
 
 -- the bound at (i, j), in rows of so many words that follow each other
@@ -23,6 +23,10 @@ replaced_entry m i j b r c = if nat_eq r i && nat_eq c j then b else at m r c
 
 unfoldable pub replaced : Matrix → ℕ → ℕ → Bound → Matrix
 replaced m i j b = table (length m) (replaced_entry m i j b)
+
+-- the matrix with one bound more at (i, j), taken by minimum
+unfoldable pub lowered : Matrix → ℕ → ℕ → Bound → Matrix
+lowered m i j b = replaced m i j (least (at m i j) b)
 
 -- words are those of row i
 pub record RowIs (m : Matrix) (i : ℕ) (words : List ℤ) : Type 0 where

@@ -21,8 +21,8 @@ fn are_both(i: usize, a: usize, j: usize, b: usize) -> bool
     i == a && j == b
 }
 
-// Whether i and j are below n.
-fn are_below(i: usize, j: usize, n: usize) -> bool
+/// Whether i and j are below n.
+pub fn are_below(i: usize, j: usize, n: usize) -> bool
     ensures { result ≡ (nat_lt i n && nat_lt j n) }
 {
     i < n && j < n
@@ -53,8 +53,8 @@ fn sum_word(t: usize, y: usize, bound: i64, i: usize, j: usize) -> i64
     NONE
 }
 
-// The word at (i, j) where there is no bound but 0 on the diagonal.
-fn top_word(i: usize, j: usize) -> i64
+/// The word at (i, j) where there is no bound but 0 on the diagonal.
+pub fn top_word(i: usize, j: usize) -> i64
     ensures { bound_of result ≡ top_entry i j }
 {
     if i == j { 0 } else { NONE }

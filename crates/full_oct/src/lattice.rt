@@ -1,6 +1,7 @@
 // Join, widening and narrowing, entry by entry, and whether two values are the same. Bottom is never a matrix: it gives the
 // other side, or Bottom, without one.
-ghost use Rattle.std.specs.Prelude.{◌≡◌, ℕ, ◌<◌, ◌↔◌, true, IfOk, length};
+ghost use Rattle.std.specs.Prelude.{◌≡◌, ℕ, ◌<◌, IfOk, length};
+ghost use Rattle.std.specs.Bool.{Decides};
 ghost use Rattle.oct_def.specs.Bound.{bound_of};
 ghost use Rattle.oct_def.specs.Octagon.{join_entry, join_matrix, join_value, widen_entry, widen_matrix, widen_value, narrow_entry, narrow_matrix, narrow_value};
 
@@ -135,7 +136,7 @@ impl FullValue {
     /// Whether two values are the same, entry by entry.
     pub fn is_same(&self, other: &FullValue) -> bool
         requires dims { self.now.dims ≡ other.now.dims }
-        ensures same { (result ≡ true) ↔ (self.now ≡ other.now) }
+        ensures same { Decides result (self.now ≡ other.now) }
     {
         match (&self.matrix, &other.matrix) {
             (None, None) => true,

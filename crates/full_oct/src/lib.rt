@@ -2,7 +2,9 @@
 #![tactic(auto)]
 
 mod assignment;
+mod calls;
 mod closing;
+mod dimensions;
 mod domain;
 mod equation;
 mod lattice;

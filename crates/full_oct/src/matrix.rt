@@ -1,5 +1,6 @@
 // A full matrix of words: one word for each place, row after row. One builder carries every loop over the places.
-ghost use Rattle.std.specs.Prelude.{◌≡◌, ℕ, ◌+◌, ◌*◌, ◌/◌, ◌%◌, ◌<◌, ◌≤◌, ◌↔◌, true, IfOk, length, ℤ, pos, slice_index_or};
+ghost use Rattle.std.specs.Prelude.{◌≡◌, ℕ, ◌+◌, ◌*◌, ◌/◌, ◌%◌, ◌<◌, ◌≤◌, IfOk, length, ℤ, pos, slice_index_or};
+ghost use Rattle.std.specs.Bool.{Decides};
 ghost use Rattle.oct_def.specs.Bound.{bound_of, word_of};
 ghost use Rattle.oct_def.specs.Table.{at};
 ghost use Rattle.oct_def.specs.Matrix.{IsSquare};
@@ -51,7 +52,7 @@ impl FullMatrix {
     /// Whether two matrices of one size are the same.
     pub fn is_same(&self, other: &FullMatrix) -> bool
         requires rows { length other.now ≡ length self.now }
-        ensures same { (result ≡ true) ↔ (self.now ≡ other.now) }
+        ensures same { Decides result (self.now ≡ other.now) }
     {
         self.words == other.words
     }
