@@ -5,13 +5,13 @@ mod assignment;
 mod calls;
 mod closing;
 mod dimensions;
-mod domain;
 mod equation;
 mod lattice;
 mod matrix;
+mod plain;
 mod value;
 
-pub use domain::FullDomain;
+pub use plain::FullDomain;
 pub use value::FullValue;
 
 #[cfg(test)]
