@@ -1,0 +1,9 @@
+pub mod Lists
+pub mod Marking
+pub mod Edges
+pub mod Ranges
+pub mod Rows
+pub mod Cuts
+pub mod Reaching
+pub mod Sorting
+pub mod Closing

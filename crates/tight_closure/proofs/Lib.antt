@@ -1,0 +1,5 @@
+pub mod Rows
+pub mod Steps
+pub mod Evening
+pub mod Strong
+pub mod Lowered

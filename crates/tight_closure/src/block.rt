@@ -1,0 +1,133 @@
+// The tight closure of a block, without memory.
+ghost use Rattle.std.specs.Prelude.{◌≡◌, ℕ, ◌+◌, ◌-◌, ◌*◌, ◌/◌, ◌^◌, ◌<◌, ◌≤◌, min, length, Some, None, IfOk};
+ghost use Rattle.oct_def.specs.Bound.{InRange};
+ghost use Rattle.oct_def.specs.Table.{at};
+ghost use Rattle.oct_def.specs.Tight.{tight};
+
+use crate::ends::{even_unary, has_crossing, has_negative_cycle, strengthen};
+use crate::pairs::closure;
+use half_matrix::HalfBuf;
+use memory::NoMemory;
+use minplus_lanes::RowCount;
+use std::alloc::Global;
+use std::marker::Model;
+
+/// What a closure comes to: a matrix, or Bottom, which no state meets.
+#[derive(Clone, Copy, Debug, PartialEq, Eq)]
+pub enum Outcome {
+    Closed,
+    Empty,
+}
+
+/// Room for the copies of two rows, to close blocks of at most so many variables.
+#[derive(Drop)]
+pub struct Scratch {
+    vars: u32,
+    first: Vec<i64>,
+    second: Vec<i64>,
+}
+
+impl Model for Scratch {
+    ghost use Rattle.std.specs.Prelude.{ℕ};
+    ghost use Rattle.tight_closure.specs.Room.{IsRoom};
+
+    ghost Value = { ℕ };
+
+    ghost view = { λ s. s.vars };
+
+    ghost invariant = { λ s. IsRoom s.vars s.first.items s.second.items };
+}
+
+impl Scratch {
+    /// Room for at most so many variables.
+    pub fn reserve(alloc: Global, vars: u32) -> Result<Scratch, NoMemory>
+        requires small { vars ≤ 512 }
+        ensures { IfOk result (λ s. s ≡ vars) }
+    {
+        let size = 2 * vars as usize;
+        let first = vec![in alloc; 0_i64; size]?;
+        let second = vec![in alloc; 0_i64; size]?;
+        Ok(Scratch {
+            vars,
+            first,
+            second,
+        })
+    }
+
+    /// How many variables there is room for.
+    pub fn vars(&self) -> u32
+        ensures { result ≡ self.now }
+    {
+        self.vars
+    }
+}
+
+// The tight closure, with scratch for two rows.
+fn close(m: &mut HalfBuf, p: &mut [i64], q: &mut [i64], count: &mut RowCount) -> Outcome
+    requires in_range { (i j : ℕ) → InRange (at m.old i j) }
+    requires first { length p.old ≡ length m.old }
+    requires second { length q.old ≡ length m.old }
+    ensures closed { result ≡ Outcome.Closed → tight m.old ≡ Some m.new }
+    ensures empty { result ≡ Outcome.Empty → tight m.old ≡ None }
+    ensures rows { length m.new ≡ length m.old }
+    ensures in_range { (i j : ℕ) → InRange (at m.new i j) }
+    ensures count { count.new ≡ min (count.old + length m.old / 2 * length m.old) (2 ^ 64 - 1) }
+    ensures first_length { length p.new ≡ length p.old }
+    ensures second_length { length q.new ≡ length q.old }
+{
+    m.shape();
+    let _ = m.vars();
+    closure(m, p, q, count);
+    if has_negative_cycle(m) {
+        return Outcome::Empty;
+    }
+    m.shape();
+    even_unary(m);
+    if has_crossing(m) {
+        return Outcome::Empty;
+    }
+    strengthen(m, p);
+    Outcome::Closed
+}
+
+// The same, in the first places of two vectors.
+fn close_within(
+    m: &mut HalfBuf,
+    first: &mut Vec<i64>,
+    second: &mut Vec<i64>,
+    count: &mut RowCount,
+) -> Outcome
+    requires in_range { (i j : ℕ) → InRange (at m.old i j) }
+    requires first { length m.old ≤ length first.old.items }
+    requires second { length m.old ≤ length second.old.items }
+    ensures closed { result ≡ Outcome.Closed → tight m.old ≡ Some m.new }
+    ensures empty { result ≡ Outcome.Empty → tight m.old ≡ None }
+    ensures rows { length m.new ≡ length m.old }
+    ensures in_range { (i j : ℕ) → InRange (at m.new i j) }
+    ensures count { count.new ≡ min (count.old + length m.old / 2 * length m.old) (2 ^ 64 - 1) }
+    ensures first_length { length first.new.items ≡ length first.old.items }
+    ensures second_length { length second.new.items ≡ length second.old.items }
+{
+    let size = 2 * m.vars() as usize;
+    close(
+        m,
+        first.slice_mut(0..size),
+        second.slice_mut(0..size),
+        count,
+    )
+}
+
+/// The tight closure of a matrix of words, in place. Where it is Bottom, the matrix holds some coherent matrix afterwards.
+/// It takes no memory, and O(k^3) time for k variables: 2k^2 rows are relaxed.
+pub fn close_block(m: &mut HalfBuf, scratch: &mut Scratch, count: &mut RowCount) -> Outcome
+    requires room { length m.old ≤ 2 * scratch.old }
+    requires in_range { (i j : ℕ) → InRange (at m.old i j) }
+    ensures closed { result ≡ Outcome.Closed → tight m.old ≡ Some m.new }
+    ensures empty { result ≡ Outcome.Empty → tight m.old ≡ None }
+    ensures rows { length m.new ≡ length m.old }
+    ensures in_range { (i j : ℕ) → InRange (at m.new i j) }
+    ensures room { scratch.new ≡ scratch.old }
+    ensures count { (k : ℕ) → length m.old ≡ 2 * k → count.new ≡ min (count.old + 2 * k * k) (2 ^ 64 - 1) }
+{
+    close_within(m, &mut scratch.first, &mut scratch.second, count)
+}

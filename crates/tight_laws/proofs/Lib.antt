@@ -1,0 +1,17 @@
+pub mod Below
+pub mod Weights
+pub mod Relax
+pub mod Clamps
+pub mod Pairs
+pub mod Closing
+pub mod Strong
+pub mod Again
+pub mod Results
+pub mod States
+pub mod Attained
+pub mod Exact
+pub mod Order
+pub mod Near
+pub mod Once
+pub mod Own
+pub mod Examples

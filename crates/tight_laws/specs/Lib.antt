@@ -1,0 +1,3 @@
+pub mod Laws
+pub mod Quick
+pub mod Examples
