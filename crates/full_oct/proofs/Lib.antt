@@ -6,3 +6,6 @@ pub mod Entering
 pub mod Entries
 pub mod Equations
 pub mod Values
+pub mod Taking
+pub mod Ranging
+pub mod Forming

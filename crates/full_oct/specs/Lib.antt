@@ -1,3 +1,5 @@
 pub mod Words
 pub mod Value
 pub mod Places
+pub mod Taken
+pub mod Formed

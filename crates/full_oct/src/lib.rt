@@ -1,7 +1,9 @@
 // The plain domain of octagons: full matrices of words, closed as the definitions say, shared by `Rc`.
 #![tactic(auto)]
 
+mod assign;
 mod assignment;
+mod bounds;
 mod calls;
 mod closing;
 mod dimensions;
@@ -9,6 +11,7 @@ mod equation;
 mod lattice;
 mod matrix;
 mod plain;
+mod ranges;
 mod value;
 
 pub use plain::FullDomain;

@@ -1,0 +1,169 @@
+-- Assignments by the forms of expressions.
+use Rattle.std.proofs.Common.{◌≡◌, ◌⊎◌, ℕ, ◌+◌, ◌*◌, ◌<◌, ◌≤◌, [], ◌∷◌, ◌++◌, List, length, length-append, Option, Some, None, pos, negsuc, refl, sym, ap, subst, ⊎_elim, ◌∙◌, arith}
+use Rattle.std.specs.Option.{option_map, option_and_then}
+use Rattle.oct_def.specs.Table.{Matrix}
+use Rattle.oct_def.specs.Matrix.{IsEvenMatrix}
+use Rattle.oct_def.specs.Tight.{tight}
+use Rattle.oct_def.specs.Octagon.{Octagon, IsOctagon, IsValueOver, bottom_value, on_matrix}
+use Rattle.spl_core.specs.Expression.{Expression, Variable, IsOver}
+use Rattle.interval_form.specs.declared.interval.Interval.{Interval}
+use Rattle.interval_form.specs.Interval.{unbounded, ranges_of, point, negated, difference_of}
+use Rattle.interval_form.specs.Form.{Form, coefficient, form_of}
+use Rattle.interval_form.specs.Linear.{variable_form, constant_form, no_terms, linear_form, difference_form, difference_term, sum_form, sum_term, settled}
+use Rattle.interval_form.specs.FormBounds.{bounded}
+use Rattle.interval_form.specs.Sparse.{Sparse, IsFormOver, form_in, term_at}
+use Rattle.interval_form.proofs.Forms.{coefficient-form_of, coefficient-form_of_past, constant-form_of}
+use Rattle.interval_form.proofs.Merging.{term_at-past, terms_widened}
+use Rattle.interval_form.proofs.Dense.{same_form, constant-in}
+use Rattle.interval_form.proofs.Bounding.{length-ranges_of}
+use Rattle.transfer_def.specs.Assign.{extended_ranges, form_minus_new, new_minus_form, equated, assigned, assign_value}
+use Rattle.transfer_def.specs.Forget.{forgotten, forget_value}
+use Rattle.transfer_def.specs.Dimensions.{extended_entry, extended, moved}
+use Rattle.transfer_def.proofs.Values.{value-assigned, value-forgotten}
+use Rattle.oct_def.proofs.Tables.{length-table}
+use Rattle.full_oct.specs.Value.{octagon_of}
+use Rattle.full_oct.specs.Formed.{equated_to, assigned_to}
+use Rattle.full_oct.proofs.Taking.{length-both}
+
+-- ---- a form over n dimensions and the same form over more have the same coefficients
+
+coefficient-wider : (n k : ℕ) (s : Sparse) (v : ℕ) → IsFormOver n s → n ≤ k → coefficient (form_in k s) v ≡ coefficient (form_in n s) v
+unfolding form_in
+coefficient-wider n k s v h l =
+    ⊎_elim
+    (λ (p : v < n). coefficient-form_of k s.constant (term_at s.terms) v (omega arith) ∙ sym (coefficient-form_of n s.constant (term_at s.terms) v p))
+    (λ (p : n ≤ v). ⊎_elim
+    (λ (q : v < k). coefficient-form_of k s.constant (term_at s.terms) v q ∙ (term_at-past 0 n s.terms v h p ∙ sym (coefficient-form_of_past n s.constant (term_at s.terms) v p)))
+    (λ (q : k ≤ v). coefficient-form_of_past k s.constant (term_at s.terms) v q ∙ sym (coefficient-form_of_past n s.constant (term_at s.terms) v p))
+    (split v k))
+    (split v n)
+  where
+    split : (v n : ℕ) → (v < n) ⊎ (n ≤ v)
+    split v n = grind arith
+
+difference-same : (ranges : List Interval) (a b c d : Form) → a.constant ≡ c.constant → b.constant ≡ d.constant
+    → ((v : ℕ) → coefficient a v ≡ coefficient c v) → ((v : ℕ) → coefficient b v ≡ coefficient d v) → difference_form ranges a b ≡ difference_form ranges c d
+unfolding difference_form difference_term
+difference-same ranges a b c d p q e f =
+    ap (settled ranges) (same_form (length ranges) (difference_of a.constant b.constant) (difference_of c.constant d.constant) (difference_term a b) (difference_term c d) (rw (p, q) refl) (λ v l. rw (e v, f v) refl))
+
+wider-left : (n : ℕ) (ranges : List Interval) (s : Sparse) (b : Form) → IsFormOver n s → n ≤ length ranges → difference_form ranges (form_in (length ranges) s) b ≡ difference_form ranges (form_in n s) b
+wider-left n ranges s b h l =
+    difference-same ranges (form_in (length ranges) s) b (form_in n s) b (constant-in (length ranges) s ∙ sym (constant-in n s)) refl (λ v. coefficient-wider n (length ranges) s v h l) (λ v. refl)
+
+wider-right : (n : ℕ) (ranges : List Interval) (a : Form) (s : Sparse) → IsFormOver n s → n ≤ length ranges → difference_form ranges a (form_in (length ranges) s) ≡ difference_form ranges a (form_in n s)
+wider-right n ranges a s h l =
+    difference-same ranges a (form_in (length ranges) s) a (form_in n s) refl (constant-in (length ranges) s ∙ sym (constant-in n s)) (λ v. refl) (λ v. coefficient-wider n (length ranges) s v h l)
+
+-- ---- the matrix with a new variable
+
+pub length-extended_ranges : (n : ℕ) (m : Matrix) (ranges : List Interval) → ranges ≡ ranges_of n m ++ unbounded ∷ [] → length ranges ≡ n + 1
+length-extended_ranges n m ranges e = ap length e ∙ (length-append (ranges_of n m) (unbounded ∷ []) ∙ ap (λ k. k + 1) (length-ranges_of n m))
+
+-- a form over n dimensions is one over the new variable too
+pub over-new : (n : ℕ) (m : Matrix) (ranges : List Interval) (s : Sparse) → ranges ≡ ranges_of n m ++ unbounded ∷ [] → IsFormOver n s → IsFormOver (length ranges) s
+over-new n m ranges s e h = let l = length-extended_ranges n m ranges e in terms_widened 0 n (length ranges) s.terms h (omega arith)
+
+pub new-below : (n : ℕ) (m : Matrix) (ranges : List Interval) → ranges ≡ ranges_of n m ++ unbounded ∷ [] → n < length ranges
+new-below n m ranges e = let l = length-extended_ranges n m ranges e in omega arith
+
+pub rows-wider : (n : ℕ) (m : Matrix) (ranges : List Interval) (rows : ℕ) → ranges ≡ ranges_of n m ++ unbounded ∷ [] → rows ≡ 2 * (n + 1) → rows ≡ 2 * length ranges
+rows-wider n m ranges rows e h = let l = length-extended_ranges n m ranges e in omega arith
+
+pub rows-extended : (n : ℕ) (m w : Matrix) → w ≡ extended n 1 m → length w ≡ 2 * (n + 1)
+unfolding extended
+rows-extended n m w e = ap length e ∙ length-table (2 * (n + 1)) (extended_entry n m)
+
+-- the bounds of both differences, by the forms of the code
+pub equated-is : (n : ℕ) (m w : Matrix) (ranges : List Interval) (s t below above : Sparse)
+    → ranges ≡ ranges_of n m ++ unbounded ∷ [] → IsFormOver n s → ((k : ℕ) → form_in k t ≡ variable_form k n) → w ≡ extended n 1 m
+    → form_in (length ranges) below ≡ difference_form ranges (form_in (length ranges) s) (form_in (length ranges) t)
+    → form_in (length ranges) above ≡ difference_form ranges (form_in (length ranges) t) (form_in (length ranges) s)
+    → option_and_then (bounded ranges (form_in (length ranges) above)) (bounded ranges (form_in (length ranges) below) w) ≡ equated_to n (form_in n s) m
+unfolding extended_ranges
+equated-is n m w ranges s t below above e h v x b a =
+    let l = length-extended_ranges n m ranges e in
+    let new : form_in (length ranges) t ≡ variable_form (n + 1) n = v (length ranges) ∙ ap (λ k. variable_form k n) l in
+    let first : form_in (length ranges) below ≡ difference_form ranges (form_in n s) (variable_form (n + 1) n) =
+    b ∙ (wider-left n ranges s (form_in (length ranges) t) h (omega arith) ∙ ap (difference_form ranges (form_in n s)) new) in
+    let second : form_in (length ranges) above ≡ difference_form ranges (variable_form (n + 1) n) (form_in n s) =
+    a ∙ (wider-right n ranges (form_in (length ranges) t) s h (omega arith) ∙ ap (λ (f : Form). difference_form ranges f (form_in n s)) new) in
+    rw (first, second, x) (ap (λ (r : List Interval).
+    option_and_then (bounded r (difference_form r (variable_form (n + 1) n) (form_in n s))) (bounded r (difference_form r (form_in n s) (variable_form (n + 1) n)) (extended n 1 m))) e)
+
+pub and-none : (go : Matrix → Option Matrix) (first whole : Option Matrix) → None ≡ first → option_and_then go first ≡ whole → None ≡ whole
+and-none go first whole e h = ap (option_and_then go) e ∙ h
+
+pub and-some : (go : Matrix → Option Matrix) (first whole after : Option Matrix) (m : Matrix) → Some m ≡ first → after ≡ go m → option_and_then go first ≡ whole → after ≡ whole
+and-some go first whole after m e r h = r ∙ (ap (option_and_then go) e ∙ h)
+
+pub length-equated : (n : ℕ) (f : Form) (m k : Matrix) → Some k ≡ equated_to n f m → length k ≡ 2 * (n + 1)
+unfolding extended
+length-equated n f m k e =
+    length-both (extended_ranges n m) (difference_form (extended_ranges n m) (variable_form (n + 1) n) f) (difference_form (extended_ranges n m) f (variable_form (n + 1) n)) (extended n 1 m) k e
+    ∙ length-table (2 * (n + 1)) (extended_entry n m)
+
+-- ---- the whole assignment
+
+pub moved-none : (n x : ℕ) (f : Form) (m : Matrix) → None ≡ equated_to n f m → None ≡ assigned_to n x f m
+moved-none n x f m e = ap (λ (r : Option Matrix). option_map (moved n (x ∷ [])) (option_and_then tight r)) e
+
+pub moved-some : (n x : ℕ) (f : Form) (m k : Matrix) (after : Option Matrix) → Some k ≡ equated_to n f m → after ≡ option_map (moved n (x ∷ [])) (tight k) → after ≡ assigned_to n x f m
+moved-some n x f m k after e h = h ∙ ap (λ (r : Option Matrix). option_map (moved n (x ∷ [])) (option_and_then tight r)) e
+
+assigned-formed : (n x : ℕ) (e : Expression) (m : Matrix) (f : Form) → f ≡ linear_form (ranges_of n m) e → assigned_to n x f m ≡ assigned n x e m
+unfolding assigned equated form_minus_new new_minus_form
+assigned-formed n x e m f h = ap (λ (g : Form). assigned_to n x g m) h
+
+pub over-ranges : (n : ℕ) (m : Matrix) (ranges : List Interval) (e : Expression) → ranges ≡ ranges_of n m → IsOver n e → IsOver (length ranges) e
+over-ranges n m ranges e q h = subst (λ k. IsOver k e) (sym (ap length q ∙ length-ranges_of n m)) h
+
+pub form-over : (n : ℕ) (m : Matrix) (ranges : List Interval) (s : Sparse) → ranges ≡ ranges_of n m → IsFormOver (length ranges) s → IsFormOver n s
+form-over n m ranges s q h = subst (λ k. IsFormOver k s) (ap length q ∙ length-ranges_of n m) h
+
+pub assigned-is : (n x : ℕ) (e : Expression) (m : Matrix) (ranges : List Interval) (s : Sparse) (after : Option Matrix) → ranges ≡ ranges_of n m
+    → form_in (length ranges) s ≡ linear_form ranges e → after ≡ assigned_to n x (form_in n s) m → after ≡ assigned n x e m
+assigned-is n x e m ranges s after q h r =
+    let l : length ranges ≡ n = ap length q ∙ length-ranges_of n m in
+    let f : form_in n s ≡ linear_form (ranges_of n m) e = ap (λ k. form_in k s) (sym l) ∙ (h ∙ ap (λ (rs : List Interval). linear_form rs e) q) in
+    r ∙ assigned-formed n x e m (form_in n s) f
+
+pub copied-is : (n x y : ℕ) (m : Matrix) (s : Sparse) (after : Option Matrix) → ((k : ℕ) → form_in k s ≡ variable_form k y) → after ≡ assigned_to n x (form_in n s) m → after ≡ assigned n x (Variable y) m
+unfolding linear_form
+copied-is n x y m s after h r =
+    r ∙ assigned-formed n x (Variable y) m (form_in n s) (h n ∙ ap (λ k. variable_form k y) (sym (length-ranges_of n m)))
+
+-- ---- values
+
+pub value_bottom : (g : ℕ → Matrix → Option Matrix) (d : ℕ) (v w : Octagon) → octagon_of d None ≡ v → w ≡ bottom_value d → w ≡ on_matrix (g v.dims) v
+unfolding bottom_value
+value_bottom g d v w e h = h ∙ ap (λ (t : Octagon). octagon_of t.dims (option_and_then (g t.dims) t.matrix)) e
+
+pub value_matrix : (g : ℕ → Matrix → Option Matrix) (d : ℕ) (m : Matrix) (r : Option Matrix) (v w : Octagon) → octagon_of d (Some m) ≡ v → r ≡ g d m → w ≡ octagon_of d r → w ≡ on_matrix (g v.dims) v
+value_matrix g d m r v w e t h = h ∙ (ap (octagon_of d) t ∙ ap (λ (u : Octagon). octagon_of u.dims (option_and_then (g u.dims) u.matrix)) e)
+
+pub assign_bottom_is : (x : ℕ) (e : Expression) (d : ℕ) (v w : Octagon) → octagon_of d None ≡ v → w ≡ bottom_value d → w ≡ assign_value x e v
+unfolding assign_value
+assign_bottom_is x e d v w p h = value_bottom (λ n. assigned n x e) d v w p h
+
+pub assign_matrix_is : (x : ℕ) (e : Expression) (d : ℕ) (m : Matrix) (r : Option Matrix) (v w : Octagon) → octagon_of d (Some m) ≡ v → r ≡ assigned d x e m → w ≡ octagon_of d r → w ≡ assign_value x e v
+unfolding assign_value
+assign_matrix_is x e d m r v w p t h = value_matrix (λ n. assigned n x e) d m r v w p t h
+
+pub assign_kept_over : (x : ℕ) (e : Expression) (d : ℕ) (m : Matrix) (r : Option Matrix) → IsEvenMatrix d m → r ≡ assigned d x e m → IsValueOver d r
+assign_kept_over x e d m r k t = subst (IsValueOver d) (sym t) (value-assigned d x e m k)
+
+pub forget_bottom_is : (x d : ℕ) (v w : Octagon) → octagon_of d None ≡ v → w ≡ bottom_value d → w ≡ forget_value x v
+unfolding forget_value bottom_value
+forget_bottom_is x d v w p h = h ∙ ap (λ (t : Octagon). octagon_of t.dims (option_map (forgotten t.dims x) t.matrix)) p
+
+pub forget_matrix_is : (x d : ℕ) (m r : Matrix) (v w : Octagon) → octagon_of d (Some m) ≡ v → r ≡ forgotten d x m → w ≡ octagon_of d (Some r) → w ≡ forget_value x v
+unfolding forget_value
+forget_matrix_is x d m r v w p t h = h ∙ (ap (λ (k : Matrix). octagon_of d (Some k)) t ∙ ap (λ (u : Octagon). octagon_of u.dims (option_map (forgotten u.dims x) u.matrix)) p)
+
+pub forget_kept : (x d : ℕ) (m r : Matrix) → IsEvenMatrix d m → r ≡ forgotten d x m → IsEvenMatrix d r
+forget_kept x d m r k t = subst (IsEvenMatrix d) (sym t) (value-forgotten d x m k)
+
+-- the rows of a matrix behind a reference
+pub rows_read : (n : ℕ) (m r : Matrix) → r ≡ m → IsEvenMatrix n m → length r ≡ 2 * n
+rows_read n m r e k = ap length e ∙ k.matrix.rows
