@@ -105,7 +105,7 @@ pub cond_pushed : (es : List Expression) (conds : List CoreCond) (e : CoreCond) 
 cond_pushed es conds e = ap (λ l. cond_at l (length conds)) (conds_push es [] conds e) ∙ get_or_push (conds_after es [] conds) (cond_over es (conds_after es [] conds) e) Random (length conds) (omega (arith, length-conds es [] conds))
 
 -- a condition still fits where there are more expressions
-fits_more : (c b : Parts) (k : ℕ) (e : CoreCond) → length c.exprs ≤ length b.exprs → CondFits c k e → CondFits b k e
+pub fits_more : (c b : Parts) (k : ℕ) (e : CoreCond) → length c.exprs ≤ length b.exprs → CondFits c k e → CondFits b k e
 fits_more c b k cond.True le h = h
 fits_more c b k cond.False le h = h
 fits_more c b k cond.Random le h = h

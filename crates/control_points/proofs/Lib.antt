@@ -11,3 +11,15 @@ pub mod Counting
 pub mod Emitted
 pub mod Adding
 pub mod Owning
+pub mod Ranges
+pub mod Fresh
+pub mod Fitting
+pub mod Framing
+pub mod Graphing
+pub mod Finished
+pub mod Tabling
+pub mod Starting
+pub mod Gathering
+pub mod Agreeing
+pub mod Placing
+pub mod Heads

@@ -1,9 +1,10 @@
 -- What statements and blocks add to a core that is being built.
-use Rattle.std.specs.Prelude.{◌≡◌}
+use Rattle.std.specs.Prelude.{◌≡◌, ℕ, List, map}
 use Rattle.spl_tree.specs.Program.{StmtTree, BlockTree}
-use Rattle.spl_types.specs.Checks.{Met, met_in, met_by}
+use Rattle.spl_types.specs.Checks.{Met, met_in, met_by, met_before, with_point, Procedure}
+use Rattle.spl_core.specs.Graph.{Copy}
 use Rattle.control_points.specs.declared.edges.Scope.{Scope}
-use Rattle.control_points.specs.CoreOf.{Naming, stmt_arcs, block_arcs, stmt_fails, block_fails}
+use Rattle.control_points.specs.CoreOf.{Spoken, Naming, place_in, dimension_in, stmt_arcs, block_arcs, stmt_fails, block_fails, points_by, procedure_arcs}
 use Rattle.control_points.specs.Building.{Building, Adds}
 
 abbrev pub naming_in : Scope → Naming
@@ -15,3 +16,14 @@ EmitsBlock c b old new = (m : Met) → m.points ≡ old.points → Adds (block_a
 
 abbrev pub EmitsStmt : Naming → StmtTree → Building → Building → Type 0
 EmitsStmt c s old new = (m : Met) → m.points ≡ old.points → Adds (stmt_arcs c m s) (stmt_fails m s) (met_in m s).points old new
+
+-- the copies of a start: what each of these names stands for takes the value of what is declared
+abbrev pub copy_named : Spoken → List ℕ → Copy
+copy_named names x = record { target = dimension_in names x; origin = place_in names.declared x }
+
+abbrev pub copies_named : Spoken → List (List ℕ) → List Copy
+copies_named names xs = map (copy_named names) xs
+
+-- the edges and fails of a procedure
+abbrev pub AddsProcedure : List (List ℕ) → Procedure → Building → Building → Type 0
+AddsProcedure procs u old new = Adds (procedure_arcs procs old.points u) (block_fails (with_point (met_before old.points)) u.body) (points_by old.points u) old new

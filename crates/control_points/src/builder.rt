@@ -1,22 +1,24 @@
 //! A core that is being built: edges, fails and points, added one after the other.
 
-ghost use Rattle.std.specs.Prelude.{◌≡◌, ◌<◌, ◌≤◌, ◌+◌, ◌-◌, ◌++◌, ◌∷◌, ◌^◌, [], ℕ, length, IfOk, OnOk};
+ghost use Rattle.std.specs.Prelude.{◌≡◌, ◌<◌, ◌≤◌, ◌+◌, ◌-◌, ◌%◌, ◌++◌, ◌∷◌, ◌^◌, [], ℕ, length, drop, IfOk, OnOk};
 ghost use Rattle.spl_tree.specs.Facts.{HasNames};
 ghost use Rattle.spl_tree.specs.Meaning.{exprs_in as trees_in, expr_at as tree_at, named_in, names_over};
 ghost use Rattle.spl_core.specs.Parts.{span_dims};
-ghost use Rattle.spl_core.specs.Graph.{move_of};
+ghost use Rattle.spl_core.specs.Graph.{pairs_in, move_of, graph_of};
 ghost use Rattle.control_points.specs.CoreOf.{arc, dimensions_in};
 ghost use Rattle.control_points.specs.Nodes.{IsMade, Grows};
-ghost use Rattle.control_points.specs.Building.{Adds, SpansStay};
-ghost use Rattle.spl_core.specs.GraphFacts.{ActionIsIn, SpanIsIn};
+ghost use Rattle.spl_core.specs.GraphFacts.{IsGraph, ActionIsIn, SpanIsIn};
+ghost use Rattle.control_points.specs.Building.{Adds, SpansStay, arcs_in};
+ghost use Rattle.control_points.specs.Emitting.{copies_named};
 
-use crate::built::Fail;
+use crate::built::{Built, Fail};
 use crate::making::{Source, translate};
+use crate::names::Dimensions;
 use crate::nodes::{name, name_count, name_node};
 use crate::nodes_made::{Made, Nodes};
-use spl_core::{Action, CoreCond, CoreExpr, Edge, Span};
+use spl_core::{Action, Core, CoreCond, CoreExpr, CoreParts, Edge, Proc, Span, law_graph};
 use spl_tree::{ExprId, NameList};
-use spl_types::NoMemory;
+use spl_types::{Names, NoMemory};
 use std::alloc::Global;
 use std::marker::Model;
 
@@ -144,6 +146,56 @@ impl Builder {
             self.push_dim(source.names.dimension(name(source.tree, named)))?;
         }
         Ok(Span { first, count })
+    }
+
+    /// Adds the pairs of a start, for each of these names from one on, and answers where they are.
+    pub fn push_pairs(
+        &mut self,
+        dims: &Dimensions,
+        names: &Names,
+        from: u32,
+    ) -> Result<Span, NoMemory>
+        requires { from ≤ length names.now }
+        ensures there { IfOk result (λ s. SpanIsIn self.new.parts s) }
+        ensures whole { IfOk result (λ s. s.count % 2 ≡ 0) }
+        ensures stands { IfOk result (λ s. pairs_in (span_dims self.new.parts s) ≡ copies_named dims.now (drop from names.now)) }
+        ensures adds { IfOk result (λ s. Adds [] [] self.old.points self.old self.new) }
+    {
+        let first = self.dims.len() as u32;
+        for k in 0..names.len() - from {
+            let name = names.name(from + k);
+            self.push_dim(dims.dimension(name))?;
+            self.push_dim(dims.declaration(name))?;
+        }
+        let count = self.dims.len() as u32 - first;
+        Ok(Span { first, count })
+    }
+
+    /// The core with these procedures and owners, and the fails.
+    pub fn finish(self, procs: Vec<Proc>, owners: Vec<u32>) -> Built
+        requires { IsGraph (record { procs = procs.items; owners = owners.items; arcs = arcs_in self.parts }) }
+        ensures graph { graph_of result.core ≡ record { procs = procs.items; owners = owners.items; arcs = arcs_in self.parts } }
+        ensures fails { result.fails.items ≡ self.fails }
+    {
+        let Builder {
+            nodes,
+            none: _,
+            edges,
+            dims,
+            fails,
+            points: _,
+        } = self;
+        law_graph();
+        let (exprs, conds) = nodes.into_parts();
+        let core = Core::from_parts(CoreParts {
+            procs,
+            owners,
+            edges,
+            dims,
+            exprs,
+            conds,
+        });
+        Built { core, fails }
     }
 
     /// Adds a dimension to those that spans have.

@@ -12,10 +12,10 @@ mod names;
 mod nodes;
 mod nodes_made;
 mod offsets;
+mod programs;
 mod routines;
-#[cfg(test)]
-mod tests;
 
 pub use built::{Built, Fail};
-pub use laws::{law_examples, law_places};
+pub use laws::{law_examples, law_graphs, law_names, law_places, law_shape};
 pub use offsets::offset_of;
+pub use programs::core_of;

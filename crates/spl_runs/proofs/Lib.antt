@@ -12,3 +12,4 @@ pub mod Following
 pub mod Sound
 pub mod Either
 pub mod Coming
+pub mod Taking

@@ -38,7 +38,7 @@ one_of true b e = inl refl
 one_of false true e = inr refl
 one_of false false e = absurd (cc)
 
-may_sound : (c : Condition) (s : State) (b : Bool) → may c s b ≡ true → May c s b
+pub may_sound : (c : Condition) (s : State) (b : Bool) → may c s b ≡ true → May c s b
 may_sound (Constant value) s b e = same value b e
 may_sound Random s b e = tt
 may_sound (Not c) s b e = may_sound c s (not b) e
@@ -86,7 +86,7 @@ pub record IsArc (g : Graph) (point : ℕ) (a : Arc) : Type 0 where
   pub is : arc_at g number ≡ a
   pub source : a.source ≡ point
 
-abbrev ArcsAre : Graph → ℕ → Option Arc → Type 0
+abbrev pub ArcsAre : Graph → ℕ → Option Arc → Type 0
 ArcsAre g point None = Unit {0}
 ArcsAre g point (Some a) = IsArc g point a
 
@@ -120,7 +120,7 @@ to_arc g point (Some a) h = record { number = h.number; within = h.within; is = 
 out_arc : (g : Graph) (point n : ℕ) → ArcsAre g point (slice_get (arcs_out g point) n)
 out_arc g point n = to_arc g point (slice_get (arcs_out g point) n) (found (λ a. nat_eq a.source point) g.arcs n)
 
-numbered_arc : (g : Graph) (point : ℕ) (z : ℤ) → ArcsAre g point (numbered (arcs_out g point) z)
+pub numbered_arc : (g : Graph) (point : ℕ) (z : ℤ) → ArcsAre g point (numbered (arcs_out g point) z)
 numbered_arc g point (pos n) = out_arc g point n
 numbered_arc g point (negsuc n) = tt
 
@@ -131,7 +131,7 @@ Sound g stack (moved next) = Step g stack next
 Sound g stack refused = Unit {0}
 Sound g stack wide = Unit {0}
 
-step_moves : (g : Graph) (a : Arc) (top : Frame) (below : Stack) (t : State) → IsArc g top.point a → Flow a.move top.state t → Step g (top ∷ below) (frame a.target t ∷ below)
+pub step_moves : (g : Graph) (a : Arc) (top : Frame) (below : Stack) (t : State) → IsArc g top.point a → Flow a.move top.state t → Step g (top ∷ below) (frame a.target t ∷ below)
 step_moves g a top below t i f =
     let P : Arc → Type 0 = λ x. Step g (frame x.source top.state ∷ below) (frame x.target t ∷ below) in
     let Q : ℕ → Type 0 = λ p. Step g (frame p top.state ∷ below) (frame a.target t ∷ below) in
@@ -207,7 +207,7 @@ pop_sound : (g : Graph) (stack : Stack) (t : Bool) (o : Outcome) → Sound g sta
 pop_sound g stack true o h = h
 pop_sound g stack false o h = tt
 
-step_leaves : (g : Graph) (a : Arc) (callee : ℕ) (args targets : List ℕ) (top caller : Frame) (below : Stack) → IsArc g caller.point a → a.move ≡ calls callee args targets → (proc_of g callee).exit ≡ top.point
+pub step_leaves : (g : Graph) (a : Arc) (callee : ℕ) (args targets : List ℕ) (top caller : Frame) (below : Stack) → IsArc g caller.point a → a.move ≡ calls callee args targets → (proc_of g callee).exit ≡ top.point
     → Step g (top ∷ caller ∷ below) (frame a.target (with_values caller.state targets (outputs_of (proc_of g callee) top.state)) ∷ below)
 step_leaves g a callee args targets top caller below i e x =
     let P : Arc → Type 0 = λ y. Step g (frame (proc_of g callee).exit top.state ∷ frame y.source caller.state ∷ below) (frame y.target (with_values caller.state targets (outputs_of (proc_of g callee) top.state)) ∷ below) in

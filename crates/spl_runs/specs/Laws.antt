@@ -23,6 +23,10 @@ pub record IsReplay (g : Graph) (given : Given) (tops : List Top) (stack : Stack
   pub seen : map top_of (stacks_of g run) ≡ tops
   pub last : last_of (first_of g run) run.stacks ≡ stack
 
+-- these are the top frames of a run with the given start and steps
+abbrev pub IsRunOf : Graph → Given → List Top → Type 0
+IsRunOf g given tops = (stack : Stack) × IsReplay g given tops stack
+
 -- what is replayed in the graph of a core is a run
 abbrev pub ReplaysAreRuns : Type 0
 ReplaysAreRuns = (c : Parts) (given : Given) (tops : List Top) (stack : Stack) → IsCore c → replayed (graph_of c) given ≡ ran tops stack → IsReplay (graph_of c) given tops stack

@@ -6,6 +6,7 @@ pub mod ChoicesText
 pub mod Reading
 pub mod Read
 pub mod Replay
+pub mod Takes
 pub mod Exact
 pub mod Stacks
 pub mod Seen

@@ -7,9 +7,11 @@ ghost use Rattle.spl_runs.specs.Choices.{given_of};
 ghost use Rattle.spl_runs.specs.Replay.{begun, replayed};
 ghost use Rattle.spl_runs.specs.Seen.{Replays, Begins, top_seen, top_held};
 ghost use Rattle.spl_runs.specs.Stacks.{frame_of, stack_of};
+ghost use Rattle.spl_runs.specs.Laws.{IsRunOf};
 
 use crate::choices::Choices;
 use crate::frame::{Frame, StepFault};
+use crate::laws::law_replays;
 use crate::stack::Stack;
 use spl_core::Core;
 use std::alloc::{AllocError, Global};
@@ -105,10 +107,8 @@ fn first(alloc: Global, core: &Core, choices: &Choices) -> Result<Option<Stack>,
     }))
 }
 
-/// The run of a core with these choices, where each step is one of a run and each value in an expression or a condition is
-/// within 128 bits. Steps are tested in order. At one step the number of the edge and the count of values come first, then
-/// values past 128 bits, then whether the condition of a test may come out as the edge wants.
-pub fn replay(alloc: Global, core: &Core, choices: &Choices) -> Result<Run, ReplayFault>
+/// The top frames of the run of a core with these choices, step by step.
+fn follow(alloc: Global, core: &Core, choices: &Choices) -> Result<Run, ReplayFault>
     requires { length choices.now.steps.items < 2 ^ 32 - 1 }
     ensures { Replays (replayed (graph_of core.now) (given_of choices.now)) result }
 {
@@ -136,4 +136,19 @@ pub fn replay(alloc: Global, core: &Core, choices: &Choices) -> Result<Run, Repl
         }
     }
     Ok(Run { tops })
+}
+
+/// The run of a core with these choices, where each step is one of a run and each value in an expression or a condition is
+/// within 128 bits. Steps are tested in order. At one step the number of the edge and the count of values come first, then
+/// values past 128 bits, then whether the condition of a test may come out as the edge wants.
+pub fn replay(alloc: Global, core: &Core, choices: &Choices) -> Result<Run, ReplayFault>
+    requires { length choices.now.steps.items < 2 ^ 32 - 1 }
+    ensures steps { Replays (replayed (graph_of core.now) (given_of choices.now)) result }
+    ensures run { IfOk result (λ tops. IsRunOf (graph_of core.now) (given_of choices.now) tops) }
+{
+    law_replays();
+    // for its clause, that the parts are those of a core
+    let _points = core.points();
+    let run = follow(alloc, core, choices)?;
+    Ok(run)
 }

@@ -1,6 +1,7 @@
 //! Laws over the definitions, as calls whose contracts are the laws.
 ghost use Rattle.spl_runs.specs.Comes.{RunsAreSound};
 ghost use Rattle.spl_runs.specs.Examples.{RunExamples};
+ghost use Rattle.spl_runs.specs.Takes.{MovesAreTaken, StepsHaveChoices, TakenAreMoves, TakenAreSteps};
 ghost use Rattle.spl_runs.specs.Laws.{ChoicesAreOne, FaultIsOne, HasNotBoth, HasOneOrOther, ReplaysAreRuns};
 
 /// The worked choices and replays of `specs/Examples.antt`.
@@ -26,4 +27,13 @@ pub fn law_replays()
 /// stands on another, that one is at a call of the frame's procedure, and the frame's inputs are the arguments' values.
 pub fn law_runs()
     ensures { RunsAreSound }
+{}
+
+/// A step of a replay moves on exactly where its choice takes it there and nothing is past 128 bits; what a choice takes is
+/// a step of a run, and each step of a run has a choice that takes it.
+pub fn law_steps()
+    ensures taken { MovesAreTaken }
+    ensures moves { TakenAreMoves }
+    ensures steps { TakenAreSteps }
+    ensures choices { StepsHaveChoices }
 {}

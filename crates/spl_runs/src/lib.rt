@@ -17,5 +17,5 @@ mod value;
 
 pub use choices::{Choices, Step};
 pub use follow::{ReplayFault, Run, Seen, replay};
-pub use laws::{law_choices, law_examples, law_replays, law_runs};
+pub use laws::{law_choices, law_examples, law_replays, law_runs, law_steps};
 pub use read::{ChoiceFault, read_choices};

@@ -8,7 +8,7 @@ use Rattle.spl_runs.specs.Replay.{step_of, top_of}
 use Rattle.spl_runs.specs.Seen.{top_seen, top_held}
 use Rattle.spl_runs.specs.Stacks.{frames_of, stack_of}
 use Rattle.spl_runs.proofs.Following.{start_followed, next_followed, no_step, wide_step, no_start, all_followed, step_at, frames_length}
-use Rattle.spl_runs.proofs.follow.replay.Goals as goal
+use Rattle.spl_runs.proofs.follow.follow.Goals as goal
 
 pub returns-in-Ok-None : goal.returns-in-Ok-None
 returns-in-Ok-None c = no_start c.args.core.now (given_of c.args.choices.now) (rw c.in-Ok-None.field-0-is at c.in-Ok-None.ensures)

@@ -1,0 +1,119 @@
+//! The core of a program: its procedures one after the other.
+
+ghost use Rattle.std.specs.Prelude.{◌≡◌, ◌≤◌, ◌<◌, ◌+◌, ◌∷◌, ◌++◌, [], length, drop, replicate, IfOk};
+ghost use Rattle.spl_tree.specs.Meaning.{program_of};
+ghost use Rattle.spl_core.specs.Graph.{starts, graph_of};
+ghost use Rattle.control_points.specs.CoreOf.{arc, points_by, proc_of, fails_of, core_of as core_in};
+ghost use Rattle.control_points.specs.Routines.{procedure_at};
+ghost use Rattle.control_points.specs.Building.{Adds};
+ghost use Rattle.control_points.specs.Emitting.{copies_named, AddsProcedure};
+
+use crate::builder::Builder;
+use crate::built::Built;
+use crate::edges::{Scope, emit_block};
+use crate::making::Source;
+use crate::names::{Dimensions, NameTable};
+use crate::nodes::decl_count;
+use crate::routines::routine_at;
+use spl_core::{Action, Proc};
+use spl_tree::law_numbers;
+use spl_types::{Checked, Names, NoMemory};
+use std::alloc::Global;
+
+/// Adds the edge from an entry, of a procedure whose dimensions have these names, and meets the entry.
+fn emit_start(builder: &mut Builder, dims: &Dimensions, names: &Names) -> Result<(), NoMemory>
+    requires declared { length dims.now.declared ≤ length names.now }
+    requires few { builder.old.points < 4096 }
+    ensures { IfOk result (λ _. Adds (arc builder.old.points (builder.old.points + 1) (starts (copies_named dims.now (drop (length dims.now.declared) names.now))) ∷ []) [] (builder.old.points + 1) builder.old builder.new) }
+{
+    let entry = builder.points();
+    let pairs = builder.push_pairs(dims, names, dims.declarations())?;
+    builder.push_edge(entry, entry + 1, Action::Start { pairs })?;
+    builder.meet_point();
+    Ok(())
+}
+
+/// Adds the edges and fails of the procedure with this number, and meets its points.
+fn emit_procedure<'s>(
+    alloc: Global,
+    checked: &'s Checked,
+    procs: &'s NameTable,
+    builder: &mut Builder,
+    p: u32,
+) -> Result<Proc, NoMemory>
+    requires there { p ≤ length checked.now.procs }
+    requires procs { length procs.now ≤ 256 }
+    requires few { points_by builder.old.points (procedure_at (program_of checked.now) p) ≤ 4096 }
+    ensures proc { IfOk result (λ q. q ≡ proc_of builder.old.points (procedure_at (program_of checked.now) p)) }
+    ensures adds { IfOk result (λ _. AddsProcedure procs.now (procedure_at (program_of checked.now) p) builder.old builder.new) }
+{
+    let tree = checked.tree();
+    let routine = routine_at(tree, p);
+    let names = checked.names(alloc, p)?;
+    let dims = Dimensions::of(alloc, checked, &names, p)?;
+    let entry = builder.points();
+    emit_start(builder, &dims, &names)?;
+    let scope = Scope {
+        alloc,
+        source: Source { tree, names: &dims },
+        procs,
+    };
+    emit_block(&scope, builder, routine.body)?;
+    Ok(Proc {
+        inputs: decl_count(tree, routine.inputs),
+        outputs: decl_count(tree, routine.outputs),
+        dims: checked.dims(p),
+        entry,
+        exit: builder.points() - 1,
+    })
+}
+
+/// Keeps a procedure.
+fn push_proc(procs: &mut Vec<Proc>, proc: Proc) -> Result<(), NoMemory>
+    ensures { IfOk result (λ _. procs.new.items ≡ procs.old.items ++ proc ∷ []) }
+{
+    match procs.push(proc) {
+        Ok(()) => Ok(()),
+        Err(_) => Err(NoMemory),
+    }
+}
+
+/// Keeps the owner of a point.
+fn push_owner(owners: &mut Vec<u32>, owner: u32) -> Result<(), NoMemory>
+    ensures { IfOk result (λ _. owners.new.items ≡ owners.old.items ++ owner ∷ []) }
+{
+    match owners.push(owner) {
+        Ok(()) => Ok(()),
+        Err(_) => Err(NoMemory),
+    }
+}
+
+/// Keeps the owner of so many points.
+fn push_owners(owners: &mut Vec<u32>, owner: u32, count: u32) -> Result<(), NoMemory>
+    ensures { IfOk result (λ _. owners.new.items ≡ owners.old.items ++ replicate count owner) }
+{
+    for i in 0..count {
+        push_owner(owners, owner)?;
+    }
+    Ok(())
+}
+
+/// The core of a program, and its fails in the order of the text.
+pub fn core_of(alloc: Global, checked: &Checked) -> Result<Built, NoMemory>
+    ensures graph { IfOk result (λ b. graph_of b.core ≡ core_in (program_of checked.now)) }
+    ensures fails { IfOk result (λ b. b.fails.items ≡ fails_of (program_of checked.now)) }
+{
+    law_numbers();
+    let tree = checked.tree();
+    let names = NameTable::of_procs(alloc, tree)?;
+    let mut builder = Builder::new(alloc)?;
+    let mut procs = Vec::new(alloc);
+    let mut owners = Vec::new(alloc);
+    for p in 0..tree.proc_count() + 1 {
+        let before = builder.points();
+        let proc = emit_procedure(alloc, &*checked, &names, &mut builder, p)?;
+        push_proc(&mut procs, proc)?;
+        push_owners(&mut owners, p, builder.points() - before)?;
+    }
+    Ok(builder.finish(procs, owners))
+}
