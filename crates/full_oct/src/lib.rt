@@ -12,6 +12,7 @@ mod equation;
 mod lattice;
 mod matrix;
 mod ranges;
+mod test;
 mod value;
 
 pub use domain::FullDomain;
