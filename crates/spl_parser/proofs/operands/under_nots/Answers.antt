@@ -5,7 +5,7 @@ use Rattle.spl_tree.specs.Program.{opposite}
 use Rattle.spl_parser.specs.Machine.{under_nots}
 use Rattle.spl_parser.specs.Trees.{trees}
 use Rattle.spl_parser.proofs.Folds.{folding_start, folding_place, folding_step, nots_more}
-use Rattle.spl_parser.proofs.operands.opposed.Goals as goal
+use Rattle.spl_parser.proofs.operands.under_nots.Goals as goal
 
 pub loop-place-init : goal.loop-place-init
 loop-place-init c = folding_start (under_nots (trees [])) (lists_of c.args.parts.now) c.args.nots.items c.args.operand c.requires.tree c.requires.there c.requires.placed

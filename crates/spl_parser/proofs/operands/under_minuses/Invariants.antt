@@ -4,7 +4,7 @@ use Rattle.spl_tree.specs.Lists.{lists_of}
 use Rattle.spl_parser.specs.Machine.{under_minuses}
 use Rattle.spl_parser.specs.Trees.{trees}
 use Rattle.spl_parser.proofs.Folds.{Folding}
-use Rattle.spl_parser.proofs.operands.negated.Given as goal
+use Rattle.spl_parser.proofs.operands.under_minuses.Given as goal
 
 abbrev pub invariant-loop-place : goal.invariant-loop-place
 invariant-loop-place l = Folding (under_minuses (trees [])) (lists_of l.fn.parts) (lists_of l.parts) l.fn.minuses.items l.minuses.items l.fn.operand l.inner

@@ -5,7 +5,7 @@ use Rattle.spl_tree.specs.Program.{negative}
 use Rattle.spl_parser.specs.Machine.{under_minuses}
 use Rattle.spl_parser.specs.Trees.{trees}
 use Rattle.spl_parser.proofs.Folds.{folding_start, folding_place, folding_step, minuses_more}
-use Rattle.spl_parser.proofs.operands.negated.Goals as goal
+use Rattle.spl_parser.proofs.operands.under_minuses.Goals as goal
 
 pub loop-place-init : goal.loop-place-init
 loop-place-init c = folding_start (under_minuses (trees [])) (lists_of c.args.parts.now) c.args.minuses.items c.args.operand c.requires.tree c.requires.there c.requires.placed
