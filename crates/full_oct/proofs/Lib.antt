@@ -9,4 +9,5 @@ pub mod Values
 pub mod Taking
 pub mod Ranging
 pub mod Forming
+pub mod Testing
 pub mod Worked

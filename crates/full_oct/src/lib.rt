@@ -12,6 +12,7 @@ mod lattice;
 mod matrix;
 mod plain;
 mod ranges;
+mod test;
 mod value;
 
 pub use plain::FullDomain;

@@ -1,5 +1,5 @@
 -- Steps that begin an expression, and steps that are those of another state.
-use Rattle.std.proofs.Common.{◌≡◌, ℕ, ◌+◌, List, [], length, refl, sym, ap, ◌∙◌, arith, Some, None, sum_by, Result, Ok, Err}
+use Rattle.std.proofs.Common.{◌≡◌, ℕ, ◌+◌, List, [], length, refl, sym, ap, ◌∙◌, subst, arith, Some, None, sum_by, Result, Ok, Err}
 use Rattle.spl_text.specs.declared.token.Token.{Token}
 use Rattle.spl_text.specs.declared.token.TokenKind.{TokenKind}
 use Rattle.spl_text.specs.declared.token.TokenKind.TheVariants.{Name, LeftParen, Semicolon}
@@ -12,6 +12,7 @@ use Rattle.spl_parser.specs.declared.state.Word.{Word}
 use Rattle.spl_parser.specs.declared.state.Body.{Body}
 use Rattle.spl_parser.specs.declared.state.Goal.{Goal}
 use Rattle.spl_parser.specs.declared.state.Goal.TheVariants as goal
+use Rattle.spl_parser.specs.declared.state.OpenExpr.{OpenExpr}
 use Rattle.spl_parser.specs.declared.state.Pending.{Pending}
 use Rattle.spl_parser.specs.declared.state.State.{State}
 use Rattle.spl_parser.specs.declared.state.Stop.{Stop}
@@ -21,7 +22,7 @@ use Rattle.spl_parser.specs.Growth.{Grown, grown}
 use Rattle.spl_parser.specs.Machine as m
 use Rattle.spl_parser.specs.Machine.{Algebra, step, step_after_end, step_block, step_assign_start, step_assign_name, step_want, step_have}
 use Rattle.spl_parser.specs.Trees.{trees}
-use Rattle.spl_parser.specs.View.{stacked, word_of, body_of, goal_of, pending_of, paren_of, state_of, BodyIn, GoalIn, WordIn, PendingIn, ExprThere, waiting, StateIn, state_waiting, Ready, TokenIn, next_of, Reaches, Steps, IsFresh, Folds}
+use Rattle.spl_parser.specs.View.{stacked, word_of, body_of, goal_of, pending_of, paren_of, state_of, BodyIn, GoalIn, WordIn, PendingIn, ExprThere, waiting, StateIn, state_waiting, Small, Ready, TokenIn, next_of, Reaches, Steps, IsFresh, Folds}
 use Rattle.spl_parser.specs.declared.state.Closed.{Closed}
 use Rattle.spl_parser.specs.View.{closed_of, AddsStmt, closed_stmt, closed_place, closed_word}
 use Rattle.spl_parser.proofs.BodyArms.{closed_is}
@@ -108,3 +109,39 @@ after_end_arm source t t1 t2 token b b' c end r n e f h =
     goes_like source t t1 t2 token (state.AfterEnd b c) (state.InBlock b') r
     (after_end_is (trees source) (body_of source (grown t) b) (closed_of source (grown t) c) token.kind (m.leaf_of token) n
     ∙ ap (λ y. m.step (trees source) (m.in_block y) token.kind (m.leaf_of token)) (sym (f.goes source ∙ ap (λ y. m.with_stmt (trees source) (body_of source (grown t) b) y) (closed_is source (grown t) c None end (sym e))))) h
+
+-- the same of an expression as it is made before its first operand
+abbrev pub IsNew : Body → Goal → OpenExpr → Type 0
+IsNew b g x = x ≡ record { body = b; goal = g; parens = x.parens; pending = x.pending }
+
+new_shape : (source : List ℕ) (r : Grown) (b : Body) (g : Goal) (x : OpenExpr) → IsNew b g x → state_of source r (state.Want x) ≡ m.want (body_of source r b) (goal_of source r g) (stacked (paren_of source r) x.parens.items) (pending_of source r x.pending)
+new_shape source r b g x same = ap (λ (y : OpenExpr). state_of source r (state.Want y)) same
+
+new_in : (r : Grown) (b : Body) (g : Goal) (x : OpenExpr) → IsNew b g x → BodyIn r b → GoalIn r g → Each (λ j y. PendingIn r y) x.parens.items → PendingIn r x.pending → StateIn r (state.Want x)
+new_in r b g x same hb hg hs hp = let P : OpenExpr → Type 0 = λ y. StateIn r (state.Want y) in subst P (sym same) (hb, hg, hs, hp)
+
+pub begins_new : (source : List ℕ) (t : Lists) (token : Token) (k : TokenKind) (b : Body) (g : Goal) (x : OpenExpr) → token.kind ≡ k → m.step (trees source) (m.in_block (body_of source (grown t) b)) k (m.leaf_of token) ≡ Some (m.want (body_of source (grown t) b) (goal_of source (grown t) g) [] (m.nothing_before (trees source))) → IsNew b g x → x.parens.items ≡ [] → IsFresh x.pending → GoalIn (grown t) g → Ready token.start t (state.InBlock b) → TokenIn token → Reaches source token.end t (state.Want x) (next_of source (grown t) (state.InBlock b) token)
+begins_new source t token k b g x is goes same none fresh hg ready ok =
+    begins_arm source t token k b g (state.Want x) x.parens.items x.pending is goes none fresh (new_shape source (grown t) b g x same) refl (new_in (grown t) b g x same) hg ready ok
+
+pub assigns_new : (source : List ℕ) (t t2 : Lists) (token : Token) (b : Body) (x : Word) (e : OpenExpr) (r : Result State Stop) → (token.kind ≡ Name → ⊥) → IsNew b (goal.Assign x) e → e.parens.items ≡ [] → IsFresh e.pending → Steps source t (state.Want e) token t2 r → Steps source t (state.AssignStart b x) token t2 r
+assigns_new source t t2 token b x e r n same none fresh h =
+    assigns_arm source t t2 token b x (state.Want e) e.parens.items e.pending r n none fresh (new_shape source (grown t) b (goal.Assign x) e same) h
+
+pub assigns_ready : (n : ℕ) (t : Lists) (b : Body) (x : Word) (e : OpenExpr) → IsNew b (goal.Assign x) e → e.parens.items ≡ [] → IsFresh e.pending → Ready n t (state.AssignStart b x) → Ready n t (state.Want e)
+assigns_ready n t b x e same none fresh ready =
+    let wait : state_waiting (state.Want e) ≡ 0 = omega (arith, fresh_waiting e.pending fresh, ap (λ l. sum_by waiting l) none) in
+    record {
+      tree = ready.tree;
+      small = subst (λ (k : ℕ). Small n (grown t) k) (sym wait) ready.small;
+      there = new_in (grown t) b (goal.Assign x) e same ready.there.0 ready.there.1 (none_pending (grown t) e.parens.items none) (fresh_in (grown t) e.pending fresh);
+    }
+
+pub name_new_ready : (n : ℕ) (t t1 : Lists) (b : Body) (x w : Word) (y : OpenExpr) (e : ExprId) → IsNew b (goal.Assign x) y → y.parens.items ≡ [] → IsFresh y.pending → Folds t t1 1 e (variable (name_of (grown t).names w.name) w.at) → Ready n t (state.AssignName b x w) → Ready n t1 (state.Have y e)
+name_new_ready n t t1 b x w y e same none fresh f ready =
+    name_ready n t t1 b x w (state.Have y e) y.parens.items y.pending e none fresh refl
+    (λ hb hg hs hp he. let P : OpenExpr → Type 0 = λ z. StateIn (grown t1) (state.Have z e) in subst P (sym same) (hb, hg, hs, hp, he)) f ready
+
+pub name_new_arm : (source : List ℕ) (t t1 t2 : Lists) (token : Token) (b : Body) (x w : Word) (y : OpenExpr) (e : ExprId) (r : Result State Stop) → (token.kind ≡ LeftParen → ⊥) → IsNew b (goal.Assign x) y → y.parens.items ≡ [] → IsFresh y.pending → Folds t t1 1 e (variable (name_of (grown t).names w.name) w.at) → BodyIn (grown t) b → WordIn (grown t) x → Steps source t1 (state.Have y e) token t2 r → Steps source t (state.AssignName b x w) token t2 r
+name_new_arm source t t1 t2 token b x w y e r n same none fresh f hb hx h =
+    name_value_arm source t t1 t2 token b x w (state.Have y e) y.parens.items y.pending e r n none fresh (ap (λ (z : OpenExpr). state_of source (grown t1) (state.Have z e)) same) f hb hx h

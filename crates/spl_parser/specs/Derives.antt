@@ -4,6 +4,8 @@ use Rattle.spl_text.specs.declared.token.Token.{Token}
 use Rattle.spl_text.specs.declared.token.TokenKind.{TokenKind}
 use Rattle.spl_text.specs.TokenList.{token_at}
 use Rattle.spl_tree.specs.Program.{Program}
+use Rattle.spl_parser.specs.declared.parsing.ParseFault.{ParseFault}
+use Rattle.spl_parser.specs.declared.parsing.ParseFault.TheVariants.{Syntax, NoMemory}
 use Rattle.spl_parser.specs.Grammar.{Derivation}
 use Rattle.spl_parser.specs.Spelling.{spelled}
 use Rattle.spl_parser.specs.TreeOf.{tree_of}
@@ -33,3 +35,8 @@ pub record SyntaxAt (size : ℕ) (tokens : List Token) (offset : ℕ) : Type 0 w
   pub stands : Stands size tokens number offset
   pub before : (j : ℕ) → j < number → Begins (take (j + 1) (kinds_of tokens))
   pub stops : number < length tokens → Begins (take (number + 1) (kinds_of tokens)) → ⊥
+
+-- a syntax error has its place; being out of memory says nothing
+abbrev pub IsParseFaultOf : List ℕ → List Token → ParseFault → Type 0
+IsParseFaultOf bytes tokens (Syntax at) = SyntaxAt (length bytes) tokens at
+IsParseFaultOf bytes tokens NoMemory = Unit {0}

@@ -3,13 +3,10 @@ use Rattle.std.specs.Prelude.{◌≡◌, ℕ, List, [], take, length, Some}
 use Rattle.spl_text.specs.declared.token.Token.{Token}
 use Rattle.spl_tree.specs.Lists.{Lists}
 use Rattle.spl_parser.specs.declared.state.State.{State}
-use Rattle.spl_parser.specs.declared.parsing.ParseFault.{ParseFault}
-use Rattle.spl_parser.specs.declared.parsing.ParseFault.TheVariants.{Syntax, NoMemory}
 use Rattle.spl_parser.specs.Growth.{grown}
 use Rattle.spl_parser.specs.Machine as m
 use Rattle.spl_parser.specs.Trees.{trees}
 use Rattle.spl_parser.specs.View.{state_of, Ready}
-use Rattle.spl_parser.specs.Derives.{SyntaxAt}
 
 -- the parts before the first token
 abbrev pub no_lists : Lists
@@ -35,8 +32,3 @@ no_lists = record {
 pub record HasRead (source : List ℕ) (tokens : List Token) (k n : ℕ) (t : Lists) (s : State) : Type 0 where
   pub runs : m.run (trees source) (m.initial (trees source)) (take k tokens) ≡ Some (state_of source (grown t) s)
   pub ready : Ready n t s
-
--- a syntax error has its place; being out of memory says nothing
-abbrev pub IsFaultOf : List ℕ → List Token → ParseFault → Type 0
-IsFaultOf bytes tokens (Syntax at) = SyntaxAt (length bytes) tokens at
-IsFaultOf bytes tokens NoMemory = Unit {0}

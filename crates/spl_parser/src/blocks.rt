@@ -116,7 +116,15 @@ pub fn open_then(
         frames,
         stmts,
     } = body;
-    let outer = with_frame(frames, Frame::Then(stmts, start, condition, stop))?;
+    let outer = with_frame(
+        frames,
+        Frame::Then {
+            outer: stmts,
+            start,
+            condition,
+            first: stop,
+        },
+    )?;
     Ok(Body {
         head,
         locals,
@@ -143,7 +151,15 @@ pub fn open_while(
         frames,
         stmts,
     } = body;
-    let outer = with_frame(frames, Frame::While(stmts, start, condition, stop))?;
+    let outer = with_frame(
+        frames,
+        Frame::While {
+            outer: stmts,
+            start,
+            condition,
+            first: stop,
+        },
+    )?;
     Ok(Body {
         head,
         locals,

@@ -103,17 +103,37 @@ pub fn finish_closed(
     ensures { IfOk result (λ b. AddsStmt (lists_of parts.old) (lists_of parts.new) body (closed_stmt closed) (closed_place closed end) b) }
 {
     match closed {
-        Closed::If(start, condition, first, block, _) => {
+        Closed::If {
+            start,
+            condition,
+            first,
+            block,
+            end: _,
+        } => {
             let places = block_places(start, first, start, end);
             let next = finish_stmt(parts, body, Stmt::If(condition, block, None), places)?;
             Ok(next)
         }
-        Closed::IfElse(start, condition, first, block, second, other, _) => {
+        Closed::IfElse {
+            start,
+            condition,
+            first,
+            block,
+            second,
+            other,
+            end: _,
+        } => {
             let places = block_places(start, first, second, end);
             let next = finish_stmt(parts, body, Stmt::If(condition, block, Some(other)), places)?;
             Ok(next)
         }
-        Closed::While(start, condition, first, block, _) => {
+        Closed::While {
+            start,
+            condition,
+            first,
+            block,
+            end: _,
+        } => {
             let places = block_places(start, first, start, end);
             let next = finish_stmt(parts, body, Stmt::While(condition, block), places)?;
             Ok(next)
@@ -126,8 +146,8 @@ pub fn word_end(closed: Closed) -> usize
     ensures { result ≡ closed_word closed }
 {
     match closed {
-        Closed::If(_, _, _, _, end) => end,
-        Closed::IfElse(_, _, _, _, _, _, end) => end,
-        Closed::While(_, _, _, _, end) => end,
+        Closed::If { end, .. } => end,
+        Closed::IfElse { end, .. } => end,
+        Closed::While { end, .. } => end,
     }
 }

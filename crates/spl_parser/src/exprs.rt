@@ -5,14 +5,14 @@ ghost use Rattle.spl_tree.specs.Lists.{lists_of};
 ghost use Rattle.spl_parser.specs.View.{Ready, TokenIn, Steps, IsFresh, AddsMinus, AddsNot, nothing_within};
 
 use crate::growing::add_expr;
-use crate::state::{Body, Goal, Pending, State, Stop, Word};
+use crate::state::{Body, Goal, OpenExpr, Pending, State, Stop};
 use crate::words::read_word;
 use spl_text::{Token, TokenKind};
 use spl_tree::{Expr, TreeParts};
 use std::alloc::{AllocError, Global};
 
 /// Nothing before an operand.
-pub fn nothing_before(alloc: Global) -> Pending
+fn nothing_before(alloc: Global) -> Pending
     ensures { IsFresh result }
 {
     Pending {
@@ -23,6 +23,20 @@ pub fn nothing_before(alloc: Global) -> Pending
         sum: None,
         product: None,
         minuses: Vec::new(alloc),
+    }
+}
+
+/// An expression of a body, before its first operand.
+pub fn new_expr(alloc: Global, body: Body, goal: Goal) -> OpenExpr
+    ensures same { result ≡ record { body = body; goal = goal; parens = result.parens; pending = result.pending } }
+    ensures none { result.parens.items ≡ [] }
+    ensures fresh { IsFresh result.pending }
+{
+    OpenExpr {
+        body,
+        goal,
+        parens: Vec::new(alloc),
+        pending: nothing_before(alloc),
     }
 }
 
@@ -47,57 +61,64 @@ pub fn at_want(
     parts: &mut TreeParts,
     alloc: Global,
     bytes: &[u8],
-    body: Body,
-    goal: Goal,
-    parens: Vec<Pending>,
-    pending: Pending,
+    expr: OpenExpr,
     token: Token,
 ) -> Result<State, Stop>
-    requires ready { Ready token.start (lists_of parts.old) (State.Want body goal parens pending) }
+    requires ready { Ready token.start (lists_of parts.old) (State.Want expr) }
     requires token { TokenIn token }
     requires inside { token.end ≤ length bytes.now }
-    ensures { Steps bytes.now (lists_of parts.old) (State.Want body goal parens pending) token (lists_of parts.new) result }
+    ensures { Steps bytes.now (lists_of parts.old) (State.Want expr) token (lists_of parts.new) result }
 {
     match token.kind {
         TokenKind::Number(n) => {
             let atom = add_expr(parts, Expr::Number(n), token.start)?;
-            Ok(State::Have(body, goal, parens, pending, atom))
+            Ok(State::Have(expr, atom))
         }
         TokenKind::Name => {
             let word = read_word(parts, bytes, token)?;
             let atom = add_expr(parts, Expr::Variable(word.name), word.at)?;
-            Ok(State::Have(body, goal, parens, pending, atom))
+            Ok(State::Have(expr, atom))
         }
         TokenKind::True => {
             let atom = add_expr(parts, Expr::True, token.start)?;
-            Ok(State::Have(body, goal, parens, pending, atom))
+            Ok(State::Have(expr, atom))
         }
         TokenKind::False => {
             let atom = add_expr(parts, Expr::False, token.start)?;
-            Ok(State::Have(body, goal, parens, pending, atom))
+            Ok(State::Have(expr, atom))
         }
         TokenKind::Random => {
             let atom = add_expr(parts, Expr::Random, token.start)?;
-            Ok(State::Have(body, goal, parens, pending, atom))
+            Ok(State::Have(expr, atom))
         }
         TokenKind::Brandom => {
             let atom = add_expr(parts, Expr::Random, token.start)?;
-            Ok(State::Have(body, goal, parens, pending, atom))
+            Ok(State::Have(expr, atom))
         }
         TokenKind::LeftParen => {
-            let outer = with_paren(parens, pending)?;
-            Ok(State::Want(body, goal, outer, nothing_before(alloc)))
+            let outer = with_paren(expr.parens, expr.pending)?;
+            Ok(State::Want(OpenExpr {
+                parens: outer,
+                pending: nothing_before(alloc),
+                ..expr
+            }))
         }
         TokenKind::Minus => {
-            let next = with_minus(pending, token.start)?;
-            Ok(State::Want(body, goal, parens, next))
+            let next = with_minus(expr.pending, token.start)?;
+            Ok(State::Want(OpenExpr {
+                pending: next,
+                ..expr
+            }))
         }
         TokenKind::Not => {
-            if !takes_not(&pending) {
+            if !takes_not(&expr.pending) {
                 return Err(Stop::Syntax);
             }
-            let next = with_not(pending, token.start)?;
-            Ok(State::Want(body, goal, parens, next))
+            let next = with_not(expr.pending, token.start)?;
+            Ok(State::Want(OpenExpr {
+                pending: next,
+                ..expr
+            }))
         }
         _ => Err(Stop::Syntax),
     }

@@ -112,7 +112,11 @@ pub fn at_decl_open(
     match token.kind {
         TokenKind::Name => {
             let name = read_word(parts, bytes, token)?;
-            Ok(State::DeclName(goal, Before::First, name))
+            Ok(State::DeclName {
+                goal,
+                before: Before::First,
+                name,
+            })
         }
         TokenKind::RightParen => decls_close(goal, DeclList { first: 0, count: 0 }),
         _ => Err(Stop::Syntax),
@@ -150,7 +154,7 @@ pub fn at_decl_next(
     match token.kind {
         TokenKind::Name => {
             let name = read_word(parts, bytes, token)?;
-            Ok(State::DeclName(goal, before, name))
+            Ok(State::DeclName { goal, before, name })
         }
         _ => Err(Stop::Syntax),
     }
@@ -161,7 +165,7 @@ pub fn at_decl_name(goal: DeclGoal, before: Before, name: Word, token: Token) ->
     ensures { Follows (State.DeclName goal before name) token result }
 {
     match token.kind {
-        TokenKind::Colon => Ok(State::DeclColon(goal, before, name)),
+        TokenKind::Colon => Ok(State::DeclColon { goal, before, name }),
         _ => Err(Stop::Syntax),
     }
 }

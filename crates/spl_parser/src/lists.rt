@@ -144,8 +144,13 @@ fn names_close(body: Body, goal: NameGoal, list: NameList) -> State
     ensures { result ≡ names_end body goal list }
 {
     match goal {
-        NameGoal::Targets(start) => State::TargetsAfter(body, start, list),
-        NameGoal::Arguments(targets, called) => State::CallAfter(body, targets, called, list),
+        NameGoal::Targets(start) => State::TargetsAfter { body, start, list },
+        NameGoal::Arguments(targets, called) => State::CallAfter {
+            body,
+            targets,
+            called,
+            arguments: list,
+        },
     }
 }
 
@@ -166,7 +171,7 @@ pub fn at_names_open(
         TokenKind::Name => {
             let name = read_word(parts, bytes, token)?;
             let first = add_named(parts, name.name, name.at)?;
-            Ok(State::NamesAfter(body, goal, first))
+            Ok(State::NamesAfter { body, goal, first })
         }
         TokenKind::RightParen => Ok(names_close(body, goal, NameList { first: 0, count: 0 })),
         _ => Err(Stop::Syntax),
@@ -191,7 +196,7 @@ pub fn at_names_next(
         TokenKind::Name => {
             let name = read_word(parts, bytes, token)?;
             let _ = add_named(parts, name.name, name.at)?;
-            Ok(State::NamesAfter(body, goal, first))
+            Ok(State::NamesAfter { body, goal, first })
         }
         _ => Err(Stop::Syntax),
     }
@@ -210,7 +215,7 @@ pub fn at_names_after(
     ensures { (source : List ℕ) → Steps source (lists_of parts.now) (State.NamesAfter body goal first) token (lists_of parts.now) result }
 {
     match token.kind {
-        TokenKind::Comma => Ok(State::NamesNext(body, goal, first)),
+        TokenKind::Comma => Ok(State::NamesNext { body, goal, first }),
         TokenKind::RightParen => {
             let list = rest_of_names(parts, first);
             Ok(names_close(body, goal, list))
@@ -250,7 +255,11 @@ pub fn at_called(
     match token.kind {
         TokenKind::Name => {
             let name = read_word(parts, bytes, token)?;
-            Ok(State::CalledName(body, targets, name))
+            Ok(State::CalledName {
+                body,
+                targets,
+                called: name,
+            })
         }
         _ => Err(Stop::Syntax),
     }

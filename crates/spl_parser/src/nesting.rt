@@ -31,11 +31,25 @@ pub fn at_else(
         stmts,
     } = body;
     match frames.pop() {
-        Some(Frame::Then(outer, start, condition, first)) => {
+        Some(
+            Frame::Then {
+                outer,
+                start,
+                condition,
+                first,
+            },
+        ) => {
             let block = add_block(parts, &stmts)?;
             let open = with_frame(
                 frames,
-                Frame::Else(outer, start, condition, first, block, token.end),
+                Frame::Else {
+                    outer,
+                    start,
+                    condition,
+                    first,
+                    block,
+                    second: token.end,
+                },
             )?;
             Ok(State::InBlock(Body {
                 head,
@@ -45,8 +59,8 @@ pub fn at_else(
                 stmts: Vec::new(alloc),
             }))
         }
-        Some(Frame::Else(_, _, _, _, _, _)) => Err(Stop::Syntax),
-        Some(Frame::While(_, _, _, _)) => Err(Stop::Syntax),
+        Some(Frame::Else { .. }) => Err(Stop::Syntax),
+        Some(Frame::While { .. }) => Err(Stop::Syntax),
         None => Err(Stop::Syntax),
     }
 }
@@ -66,7 +80,14 @@ pub fn at_endif(parts: &mut TreeParts, body: Body, token: Token) -> Result<State
         stmts,
     } = body;
     match frames.pop() {
-        Some(Frame::Then(outer, start, condition, first)) => {
+        Some(
+            Frame::Then {
+                outer,
+                start,
+                condition,
+                first,
+            },
+        ) => {
             let block = add_block(parts, &stmts)?;
             Ok(State::AfterEnd(
                 Body {
@@ -76,10 +97,25 @@ pub fn at_endif(parts: &mut TreeParts, body: Body, token: Token) -> Result<State
                     frames,
                     stmts: outer,
                 },
-                Closed::If(start, condition, first, block, token.end),
+                Closed::If {
+                    start,
+                    condition,
+                    first,
+                    block,
+                    end: token.end,
+                },
             ))
         }
-        Some(Frame::Else(outer, start, condition, first, block, second)) => {
+        Some(
+            Frame::Else {
+                outer,
+                start,
+                condition,
+                first,
+                block,
+                second,
+            },
+        ) => {
             let other = add_block(parts, &stmts)?;
             Ok(State::AfterEnd(
                 Body {
@@ -89,10 +125,18 @@ pub fn at_endif(parts: &mut TreeParts, body: Body, token: Token) -> Result<State
                     frames,
                     stmts: outer,
                 },
-                Closed::IfElse(start, condition, first, block, second, other, token.end),
+                Closed::IfElse {
+                    start,
+                    condition,
+                    first,
+                    block,
+                    second,
+                    other,
+                    end: token.end,
+                },
             ))
         }
-        Some(Frame::While(_, _, _, _)) => Err(Stop::Syntax),
+        Some(Frame::While { .. }) => Err(Stop::Syntax),
         None => Err(Stop::Syntax),
     }
 }
@@ -112,7 +156,14 @@ pub fn at_done(parts: &mut TreeParts, body: Body, token: Token) -> Result<State,
         stmts,
     } = body;
     match frames.pop() {
-        Some(Frame::While(outer, start, condition, first)) => {
+        Some(
+            Frame::While {
+                outer,
+                start,
+                condition,
+                first,
+            },
+        ) => {
             let block = add_block(parts, &stmts)?;
             Ok(State::AfterEnd(
                 Body {
@@ -122,11 +173,17 @@ pub fn at_done(parts: &mut TreeParts, body: Body, token: Token) -> Result<State,
                     frames,
                     stmts: outer,
                 },
-                Closed::While(start, condition, first, block, token.end),
+                Closed::While {
+                    start,
+                    condition,
+                    first,
+                    block,
+                    end: token.end,
+                },
             ))
         }
-        Some(Frame::Then(_, _, _, _)) => Err(Stop::Syntax),
-        Some(Frame::Else(_, _, _, _, _, _)) => Err(Stop::Syntax),
+        Some(Frame::Then { .. }) => Err(Stop::Syntax),
+        Some(Frame::Else { .. }) => Err(Stop::Syntax),
         None => Err(Stop::Syntax),
     }
 }

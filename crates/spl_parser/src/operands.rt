@@ -15,7 +15,7 @@ use spl_tree::{BinOp, Expr, ExprId, TreeParts};
 use std::alloc::AllocError;
 
 /// An operand under its minus signs, the outermost one first.
-pub fn negated(
+pub fn under_minuses(
     parts: &mut TreeParts,
     mut minuses: Vec<usize>,
     operand: ExprId,
@@ -35,7 +35,7 @@ pub fn negated(
 }
 
 /// An operand under its negations, the outermost one first.
-pub fn opposed(
+pub fn under_nots(
     parts: &mut TreeParts,
     mut nots: Vec<usize>,
     operand: ExprId,
@@ -55,7 +55,7 @@ pub fn opposed(
 }
 
 /// An operand with its left operand, where there is one.
-pub fn joined(
+pub fn with_left(
     parts: &mut TreeParts,
     left: Option<Left>,
     operand: ExprId,
@@ -81,7 +81,7 @@ pub fn joined(
 }
 
 /// An operand with its left operand before `or` or `and`, where there is one.
-pub fn sided(
+pub fn with_side(
     parts: &mut TreeParts,
     operator: BinOp,
     side: Option<Side>,
@@ -123,8 +123,8 @@ pub fn closed_product(
         Folds (lists_of parts.old) (lists_of parts.new) (one_if product + length minuses.items) e
         (product_tree (left_of r product) minuses.items (expr_at r.exprs operand))) }
 {
-    let factor = negated(parts, minuses, operand)?;
-    let whole = joined(parts, product, factor)?;
+    let factor = under_minuses(parts, minuses, operand)?;
+    let whole = with_left(parts, product, factor)?;
     Ok(whole)
 }
 
@@ -147,7 +147,7 @@ pub fn closed_sum(
         (sum_tree (left_of r sum) (left_of r product) minuses.items (expr_at r.exprs operand))) }
 {
     let term = closed_product(parts, product, minuses, operand)?;
-    let whole = joined(parts, sum, term)?;
+    let whole = with_left(parts, sum, term)?;
     Ok(whole)
 }
 
@@ -171,9 +171,9 @@ pub fn closed_conjunct(
         pending.minuses,
         operand,
     )?;
-    let compared = joined(parts, pending.comparison, term)?;
-    let negation = opposed(parts, pending.nots, compared)?;
-    let whole = sided(parts, BinOp::And, pending.both, negation)?;
+    let compared = with_left(parts, pending.comparison, term)?;
+    let negation = under_nots(parts, pending.nots, compared)?;
+    let whole = with_side(parts, BinOp::And, pending.both, negation)?;
     Ok(whole)
 }
 
@@ -192,6 +192,6 @@ pub fn closed_whole(
 {
     let side = pending.either;
     let conjunct = closed_conjunct(parts, pending, operand)?;
-    let whole = sided(parts, BinOp::Or, side, conjunct)?;
+    let whole = with_side(parts, BinOp::Or, side, conjunct)?;
     Ok(whole)
 }

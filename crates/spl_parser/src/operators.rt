@@ -8,7 +8,7 @@ ghost use Rattle.spl_parser.specs.Growth.{grown};
 
 use crate::blocks::{finish_stmt, open_then, open_while, plain_places};
 use crate::operands::{closed_conjunct, closed_product, closed_sum, closed_whole};
-use crate::state::{Body, Goal, Left, Pending, Side, Sign, State, Stop};
+use crate::state::{Goal, Left, OpenExpr, Pending, Side, Sign, State, Stop};
 use spl_text::{Token, TokenKind};
 use spl_tree::{BinOp, ExprId, Stmt, TreeParts};
 use std::alloc::{AllocError, Global};
@@ -228,45 +228,64 @@ fn after_or(
 pub fn at_have(
     parts: &mut TreeParts,
     alloc: Global,
-    body: Body,
-    goal: Goal,
-    parens: Vec<Pending>,
-    pending: Pending,
+    expr: OpenExpr,
     operand: ExprId,
     token: Token,
 ) -> Result<State, Stop>
-    requires ready { Ready token.start (lists_of parts.old) (State.Have body goal parens pending operand) }
+    requires ready { Ready token.start (lists_of parts.old) (State.Have expr operand) }
     requires token { TokenIn token }
-    ensures { (source : List ℕ) → Steps source (lists_of parts.old) (State.Have body goal parens pending operand) token (lists_of parts.new) result }
+    ensures { (source : List ℕ) → Steps source (lists_of parts.old) (State.Have expr operand) token (lists_of parts.new) result }
 {
     match sign_of(token.kind) {
         Sign::Product(operator) => {
-            let next = after_product(parts, alloc, pending, operand, operator, token.start)?;
-            Ok(State::Want(body, goal, parens, next))
+            let next = after_product(parts, alloc, expr.pending, operand, operator, token.start)?;
+            Ok(State::Want(OpenExpr {
+                pending: next,
+                ..expr
+            }))
         }
         Sign::Sum(operator) => {
-            let next = after_sum(parts, alloc, pending, operand, operator, token.start)?;
-            Ok(State::Want(body, goal, parens, next))
+            let next = after_sum(parts, alloc, expr.pending, operand, operator, token.start)?;
+            Ok(State::Want(OpenExpr {
+                pending: next,
+                ..expr
+            }))
         }
-        Sign::Comparison(operator) => match pending.comparison {
+        Sign::Comparison(operator) => match expr.pending.comparison {
             Some(_) => Err(Stop::Syntax),
             None => {
-                let next = after_comparison(parts, alloc, pending, operand, operator, token.start)?;
-                Ok(State::Want(body, goal, parens, next))
+                let next = after_comparison(
+                    parts,
+                    alloc,
+                    expr.pending,
+                    operand,
+                    operator,
+                    token.start,
+                )?;
+                Ok(State::Want(OpenExpr {
+                    pending: next,
+                    ..expr
+                }))
             }
         },
         Sign::And => {
-            let next = after_and(parts, alloc, pending, operand, token.start)?;
-            Ok(State::Want(body, goal, parens, next))
+            let next = after_and(parts, alloc, expr.pending, operand, token.start)?;
+            Ok(State::Want(OpenExpr {
+                pending: next,
+                ..expr
+            }))
         }
         Sign::Or => {
-            let next = after_or(parts, alloc, pending, operand, token.start)?;
-            Ok(State::Want(body, goal, parens, next))
+            let next = after_or(parts, alloc, expr.pending, operand, token.start)?;
+            Ok(State::Want(OpenExpr {
+                pending: next,
+                ..expr
+            }))
         }
-        Sign::Right => at_right(parts, body, goal, parens, pending, operand, token),
-        Sign::Semicolon => at_semicolon(parts, body, goal, parens, pending, operand, token),
-        Sign::Then => at_then(parts, alloc, body, goal, parens, pending, operand, token),
-        Sign::Do => at_do(parts, alloc, body, goal, parens, pending, operand, token),
+        Sign::Right => at_right(parts, expr, operand, token),
+        Sign::Semicolon => at_semicolon(parts, expr, operand, token),
+        Sign::Then => at_then(parts, alloc, expr, operand, token),
+        Sign::Do => at_do(parts, alloc, expr, operand, token),
         Sign::Other => Err(Stop::Syntax),
     }
 }
@@ -274,22 +293,26 @@ pub fn at_have(
 /// At the `)` of an expression.
 fn at_right(
     parts: &mut TreeParts,
-    body: Body,
-    goal: Goal,
-    mut parens: Vec<Pending>,
-    pending: Pending,
+    expr: OpenExpr,
     operand: ExprId,
     token: Token,
 ) -> Result<State, Stop>
-    requires ready { Ready token.start (lists_of parts.old) (State.Have body goal parens pending operand) }
+    requires ready { Ready token.start (lists_of parts.old) (State.Have expr operand) }
     requires token { TokenIn token }
     requires sign { sign_of token.kind ≡ Sign.Right }
-    ensures { (source : List ℕ) → Steps source (lists_of parts.old) (State.Have body goal parens pending operand) token (lists_of parts.new) result }
+    ensures { (source : List ℕ) → Steps source (lists_of parts.old) (State.Have expr operand) token (lists_of parts.new) result }
 {
+    let mut parens = expr.parens;
     match parens.pop() {
         Some(outer) => {
-            let whole = closed_whole(parts, pending, operand)?;
-            Ok(State::Have(body, goal, parens, outer, whole))
+            let whole = closed_whole(parts, expr.pending, operand)?;
+            let wider = OpenExpr {
+                body: expr.body,
+                goal: expr.goal,
+                parens,
+                pending: outer,
+            };
+            Ok(State::Have(wider, whole))
         }
         None => Err(Stop::Syntax),
     }
@@ -298,32 +321,29 @@ fn at_right(
 /// At the `;` after an expression.
 fn at_semicolon(
     parts: &mut TreeParts,
-    body: Body,
-    goal: Goal,
-    parens: Vec<Pending>,
-    pending: Pending,
+    expr: OpenExpr,
     operand: ExprId,
     token: Token,
 ) -> Result<State, Stop>
-    requires ready { Ready token.start (lists_of parts.old) (State.Have body goal parens pending operand) }
+    requires ready { Ready token.start (lists_of parts.old) (State.Have expr operand) }
     requires token { TokenIn token }
     requires sign { sign_of token.kind ≡ Sign.Semicolon }
-    ensures { (source : List ℕ) → Steps source (lists_of parts.old) (State.Have body goal parens pending operand) token (lists_of parts.new) result }
+    ensures { (source : List ℕ) → Steps source (lists_of parts.old) (State.Have expr operand) token (lists_of parts.new) result }
 {
-    if parens.len() > 0 {
+    if expr.parens.len() > 0 {
         return Err(Stop::Syntax);
     }
-    match goal {
+    match expr.goal {
         Goal::Assume(start) => {
-            let whole = closed_whole(parts, pending, operand)?;
+            let whole = closed_whole(parts, expr.pending, operand)?;
             let places = plain_places(start, token.end);
-            let next = finish_stmt(parts, body, Stmt::Assume(whole), places)?;
+            let next = finish_stmt(parts, expr.body, Stmt::Assume(whole), places)?;
             Ok(State::InBlock(next))
         }
         Goal::Assign(target) => {
-            let whole = closed_whole(parts, pending, operand)?;
+            let whole = closed_whole(parts, expr.pending, operand)?;
             let places = plain_places(target.at, token.end);
-            let next = finish_stmt(parts, body, Stmt::Assign(target.name, whole), places)?;
+            let next = finish_stmt(parts, expr.body, Stmt::Assign(target.name, whole), places)?;
             Ok(State::InBlock(next))
         }
         Goal::If(_) => Err(Stop::Syntax),
@@ -335,25 +355,22 @@ fn at_semicolon(
 fn at_then(
     parts: &mut TreeParts,
     alloc: Global,
-    body: Body,
-    goal: Goal,
-    parens: Vec<Pending>,
-    pending: Pending,
+    expr: OpenExpr,
     operand: ExprId,
     token: Token,
 ) -> Result<State, Stop>
-    requires ready { Ready token.start (lists_of parts.old) (State.Have body goal parens pending operand) }
+    requires ready { Ready token.start (lists_of parts.old) (State.Have expr operand) }
     requires token { TokenIn token }
     requires sign { sign_of token.kind ≡ Sign.Then }
-    ensures { (source : List ℕ) → Steps source (lists_of parts.old) (State.Have body goal parens pending operand) token (lists_of parts.new) result }
+    ensures { (source : List ℕ) → Steps source (lists_of parts.old) (State.Have expr operand) token (lists_of parts.new) result }
 {
-    if parens.len() > 0 {
+    if expr.parens.len() > 0 {
         return Err(Stop::Syntax);
     }
-    match goal {
+    match expr.goal {
         Goal::If(start) => {
-            let whole = closed_whole(parts, pending, operand)?;
-            let next = open_then(alloc, body, start, whole, token.end)?;
+            let whole = closed_whole(parts, expr.pending, operand)?;
+            let next = open_then(alloc, expr.body, start, whole, token.end)?;
             Ok(State::InBlock(next))
         }
         Goal::Assume(_) => Err(Stop::Syntax),
@@ -366,25 +383,22 @@ fn at_then(
 fn at_do(
     parts: &mut TreeParts,
     alloc: Global,
-    body: Body,
-    goal: Goal,
-    parens: Vec<Pending>,
-    pending: Pending,
+    expr: OpenExpr,
     operand: ExprId,
     token: Token,
 ) -> Result<State, Stop>
-    requires ready { Ready token.start (lists_of parts.old) (State.Have body goal parens pending operand) }
+    requires ready { Ready token.start (lists_of parts.old) (State.Have expr operand) }
     requires token { TokenIn token }
     requires sign { sign_of token.kind ≡ Sign.Do }
-    ensures { (source : List ℕ) → Steps source (lists_of parts.old) (State.Have body goal parens pending operand) token (lists_of parts.new) result }
+    ensures { (source : List ℕ) → Steps source (lists_of parts.old) (State.Have expr operand) token (lists_of parts.new) result }
 {
-    if parens.len() > 0 {
+    if expr.parens.len() > 0 {
         return Err(Stop::Syntax);
     }
-    match goal {
+    match expr.goal {
         Goal::While(start) => {
-            let whole = closed_whole(parts, pending, operand)?;
-            let next = open_while(alloc, body, start, whole, token.end)?;
+            let whole = closed_whole(parts, expr.pending, operand)?;
+            let next = open_while(alloc, expr.body, start, whole, token.end)?;
             Ok(State::InBlock(next))
         }
         Goal::Assume(_) => Err(Stop::Syntax),

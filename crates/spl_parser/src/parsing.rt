@@ -4,8 +4,8 @@ ghost use Rattle.spl_text.specs.Pieces.{Cut};
 ghost use Rattle.spl_text.specs.TextRules.{IsUnbroken};
 ghost use Rattle.spl_tree.specs.Lists.{lists_of};
 ghost use Rattle.spl_tree.specs.Meaning.{program_of};
-ghost use Rattle.spl_parser.specs.Derives.{Derives};
-ghost use Rattle.spl_parser.specs.Reading.{no_lists, HasRead, IsFaultOf};
+ghost use Rattle.spl_parser.specs.Derives.{Derives, IsParseFaultOf};
+ghost use Rattle.spl_parser.specs.Reading.{no_lists, HasRead};
 
 use crate::state::{Head, State, Stop};
 use crate::steps::step;
@@ -20,7 +20,7 @@ use thiserror::Error;
 pub enum ParseFault {
     #[error("syntax error at byte {0}")]
     Syntax(usize),
-    #[error("no memory")]
+    #[error("out of memory")]
     NoMemory,
 }
 
@@ -32,7 +32,7 @@ pub fn parse(alloc: Global, bytes: &[u8], tokens: &Tokens) -> Result<Tree, Parse
     requires cut { Cut bytes.now tokens.now }
     requires unbroken { IsUnbroken bytes.now }
     ensures derived { IfOk result (λ tree. Derives bytes.now tokens.now (program_of tree)) }
-    ensures fault { IfErr result (IsFaultOf bytes.now tokens.now) }
+    ensures fault { IfErr result (IsParseFaultOf bytes.now tokens.now) }
 {
     let mut parts = no_parts(alloc);
     let state = read_tokens(&mut parts, alloc, bytes, tokens)?;
@@ -83,7 +83,7 @@ fn read_tokens(
     requires cut { Cut bytes.now tokens.now }
     requires unbroken { IsUnbroken bytes.now }
     ensures read { IfOk result (λ state. HasRead bytes.now tokens.now (length tokens.now) (2 ^ 20) (lists_of parts.new) state) }
-    ensures fault { IfErr result (IsFaultOf bytes.now tokens.now) }
+    ensures fault { IfErr result (IsParseFaultOf bytes.now tokens.now) }
 {
     law_tokens_spelled();
     let mut state = State::Start(Head::Main);

@@ -59,12 +59,31 @@ pub enum Before {
     After(u32),
 }
 
-/// An open block around the one that is read, with the statements before it.
+/// An open block around the one that is read: the statements before it in the block around it, where its statement
+/// starts, the condition, and where the first block begins. After `else` the first block stands there too, and where
+/// the second one begins.
 #[derive(Drop)]
 pub enum Frame {
-    Then(Vec<StmtId>, usize, ExprId, usize),
-    Else(Vec<StmtId>, usize, ExprId, usize, Block, usize),
-    While(Vec<StmtId>, usize, ExprId, usize),
+    Then {
+        outer: Vec<StmtId>,
+        start: usize,
+        condition: ExprId,
+        first: usize,
+    },
+    Else {
+        outer: Vec<StmtId>,
+        start: usize,
+        condition: ExprId,
+        first: usize,
+        block: Block,
+        second: usize,
+    },
+    While {
+        outer: Vec<StmtId>,
+        start: usize,
+        condition: ExprId,
+        first: usize,
+    },
 }
 
 /// A body that is read: its open blocks, the innermost one last, and the statements of the innermost block so far.
@@ -114,6 +133,16 @@ pub struct Pending {
     pub minuses: Vec<usize>,
 }
 
+/// An expression that is read: in which body, what for, what stands before each parenthesis that is open around the
+/// operand, the innermost one last, and what stands before the operand.
+#[derive(Drop)]
+pub struct OpenExpr {
+    pub body: Body,
+    pub goal: Goal,
+    pub parens: Vec<Pending>,
+    pub pending: Pending,
+}
+
 /// A statement of one word, at its start.
 #[derive(Clone, Copy, Drop)]
 pub enum Simple {
@@ -136,13 +165,33 @@ pub enum NameGoal {
     Arguments(Targets, Word),
 }
 
-/// A statement whose `;` may follow: where it starts, its condition, where its first block begins, that block, and
-/// where its last word ends.
+/// A statement whose `;` may follow: where it starts, its condition, where its first block begins, that block, the
+/// same of the block after `else`, and where its last word ends.
 #[derive(Clone, Copy, Drop)]
 pub enum Closed {
-    If(usize, ExprId, usize, Block, usize),
-    IfElse(usize, ExprId, usize, Block, usize, Block, usize),
-    While(usize, ExprId, usize, Block, usize),
+    If {
+        start: usize,
+        condition: ExprId,
+        first: usize,
+        block: Block,
+        end: usize,
+    },
+    IfElse {
+        start: usize,
+        condition: ExprId,
+        first: usize,
+        block: Block,
+        second: usize,
+        other: Block,
+        end: usize,
+    },
+    While {
+        start: usize,
+        condition: ExprId,
+        first: usize,
+        block: Block,
+        end: usize,
+    },
 }
 
 /// What was read, and so what may follow.
@@ -154,8 +203,16 @@ pub enum State {
     ProcName(Word),
     DeclOpen(DeclGoal),
     DeclNext(DeclGoal, Before),
-    DeclName(DeclGoal, Before, Word),
-    DeclColon(DeclGoal, Before, Word),
+    DeclName {
+        goal: DeclGoal,
+        before: Before,
+        name: Word,
+    },
+    DeclColon {
+        goal: DeclGoal,
+        before: Before,
+        name: Word,
+    },
     DeclAfter(DeclGoal, u32),
     InputsAfter(Word, DeclList),
     ReturnsWord(Word, DeclList),
@@ -163,16 +220,41 @@ pub enum State {
     Single(Body, Simple),
     Target(Body, Word),
     AssignStart(Body, Word),
-    AssignName(Body, Word, Word),
-    Want(Body, Goal, Vec<Pending>, Pending),
-    Have(Body, Goal, Vec<Pending>, Pending, ExprId),
+    AssignName {
+        body: Body,
+        target: Word,
+        name: Word,
+    },
+    Want(OpenExpr),
+    Have(OpenExpr, ExprId),
     NamesOpen(Body, NameGoal),
-    NamesNext(Body, NameGoal, u32),
-    NamesAfter(Body, NameGoal, u32),
-    TargetsAfter(Body, usize, NameList),
+    NamesNext {
+        body: Body,
+        goal: NameGoal,
+        first: u32,
+    },
+    NamesAfter {
+        body: Body,
+        goal: NameGoal,
+        first: u32,
+    },
+    TargetsAfter {
+        body: Body,
+        start: usize,
+        list: NameList,
+    },
     Called(Body, Targets),
-    CalledName(Body, Targets, Word),
-    CallAfter(Body, Targets, Word, NameList),
+    CalledName {
+        body: Body,
+        targets: Targets,
+        called: Word,
+    },
+    CallAfter {
+        body: Body,
+        targets: Targets,
+        called: Word,
+        arguments: NameList,
+    },
     AfterEnd(Body, Closed),
     Finished(MainTree, usize),
 }

@@ -5,7 +5,7 @@ ghost use Rattle.spl_tree.specs.Lists.{lists_of};
 ghost use Rattle.spl_parser.specs.View.{Ready, TokenIn, Steps};
 
 use crate::bodies::{at_call_after, at_single, finish_closed, word_end};
-use crate::exprs::{at_want, nothing_before};
+use crate::exprs::{at_want, new_expr};
 use crate::growing::add_expr;
 use crate::heads::{
     at_begin, at_decl_name, at_decl_next, at_decl_open, at_inputs_after, at_proc_name,
@@ -40,24 +40,9 @@ fn at_block(
         TokenKind::Skip => Ok(State::Single(body, Simple::Skip(token.start))),
         TokenKind::Halt => Ok(State::Single(body, Simple::Halt(token.start))),
         TokenKind::Fail => Ok(State::Single(body, Simple::Fail(token.start))),
-        TokenKind::Assume => Ok(State::Want(
-            body,
-            Goal::Assume(token.start),
-            Vec::new(alloc),
-            nothing_before(alloc),
-        )),
-        TokenKind::If => Ok(State::Want(
-            body,
-            Goal::If(token.start),
-            Vec::new(alloc),
-            nothing_before(alloc),
-        )),
-        TokenKind::While => Ok(State::Want(
-            body,
-            Goal::While(token.start),
-            Vec::new(alloc),
-            nothing_before(alloc),
-        )),
+        TokenKind::Assume => Ok(State::Want(new_expr(alloc, body, Goal::Assume(token.start)))),
+        TokenKind::If => Ok(State::Want(new_expr(alloc, body, Goal::If(token.start)))),
+        TokenKind::While => Ok(State::Want(new_expr(alloc, body, Goal::While(token.start)))),
         TokenKind::Name => {
             let name = read_word(parts, bytes, token)?;
             Ok(State::Target(body, name))
@@ -114,18 +99,12 @@ fn at_assign_start(
     match token.kind {
         TokenKind::Name => {
             let name = read_word(parts, bytes, token)?;
-            Ok(State::AssignName(body, target, name))
+            Ok(State::AssignName { body, target, name })
         }
-        _ => at_want(
-            parts,
-            alloc,
-            bytes,
-            body,
-            Goal::Assign(target),
-            Vec::new(alloc),
-            nothing_before(alloc),
-            token,
-        ),
+        _ => {
+            let expr = new_expr(alloc, body, Goal::Assign(target));
+            at_want(parts, alloc, bytes, expr, token)
+        }
     }
 }
 
@@ -149,16 +128,8 @@ fn at_assign_name(
         )),
         _ => {
             let atom = add_expr(parts, Expr::Variable(name.name), name.at)?;
-            at_have(
-                parts,
-                alloc,
-                body,
-                Goal::Assign(target),
-                Vec::new(alloc),
-                nothing_before(alloc),
-                atom,
-                token,
-            )
+            let expr = new_expr(alloc, body, Goal::Assign(target));
+            at_have(parts, alloc, expr, atom, token)
         }
     }
 }
@@ -183,8 +154,8 @@ pub fn step(
         State::ProcName(name) => at_proc_name(name, token),
         State::DeclOpen(goal) => at_decl_open(parts, bytes, goal, token),
         State::DeclNext(goal, before) => at_decl_next(parts, bytes, goal, before, token),
-        State::DeclName(goal, before, name) => at_decl_name(goal, before, name, token),
-        State::DeclColon(goal, before, name) => at_decl_colon(
+        State::DeclName { goal, before, name } => at_decl_name(goal, before, name, token),
+        State::DeclColon { goal, before, name } => at_decl_colon(
             parts, bytes, goal, before, name, token,
         ),
         State::DeclAfter(goal, first) => at_decl_after(parts, goal, first, token),
@@ -196,26 +167,29 @@ pub fn step(
         State::AssignStart(body, target) => at_assign_start(
             parts, alloc, bytes, body, target, token,
         ),
-        State::AssignName(body, target, name) => at_assign_name(
+        State::AssignName { body, target, name } => at_assign_name(
             parts, alloc, body, target, name, token,
         ),
-        State::Want(body, goal, parens, pending) => at_want(
-            parts, alloc, bytes, body, goal, parens, pending, token,
-        ),
-        State::Have(body, goal, parens, pending, operand) => at_have(
-            parts, alloc, body, goal, parens, pending, operand, token,
-        ),
+        State::Want(expr) => at_want(parts, alloc, bytes, expr, token),
+        State::Have(expr, operand) => at_have(parts, alloc, expr, operand, token),
         State::NamesOpen(body, goal) => at_names_open(parts, bytes, body, goal, token),
-        State::NamesNext(body, goal, first) => at_names_next(
+        State::NamesNext { body, goal, first } => at_names_next(
             parts, bytes, body, goal, first, token,
         ),
-        State::NamesAfter(body, goal, first) => at_names_after(parts, body, goal, first, token),
-        State::TargetsAfter(body, start, list) => at_targets_after(body, start, list, token),
+        State::NamesAfter { body, goal, first } => at_names_after(parts, body, goal, first, token),
+        State::TargetsAfter { body, start, list } => at_targets_after(body, start, list, token),
         State::Called(body, targets) => at_called(parts, bytes, body, targets, token),
-        State::CalledName(body, targets, called) => at_called_name(body, targets, called, token),
-        State::CallAfter(body, targets, called, arguments) => at_call_after(
-            parts, body, targets, called, arguments, token,
-        ),
+        State::CalledName {
+            body,
+            targets,
+            called,
+        } => at_called_name(body, targets, called, token),
+        State::CallAfter {
+            body,
+            targets,
+            called,
+            arguments,
+        } => at_call_after(parts, body, targets, called, arguments, token),
         State::AfterEnd(body, closed) => at_after_end(parts, alloc, bytes, body, closed, token),
         State::Finished(_, _) => Err(Stop::Syntax),
     }

@@ -15,39 +15,39 @@ use Rattle.spl_parser.proofs.exprs.at_want.Goals as goal
 
 pub returns-in_ok-atom-in-Number : goal.returns-in_ok-atom-in-Number
 unfolding step step_want
-returns-in_ok-atom-in-Number c = want_arm c.args.bytes.now (lists_of c.args.parts.now) (lists_of c.add_expr.new.parts) c.args.token (kind.Number c.in-Number.n) c.args.body c.args.goal (state.Want c.args.body c.args.goal c.args.parens c.args.pending) (state.Have c.args.body c.args.goal c.args.parens c.args.pending c.in_ok-atom-in-Number.atom) c.args.parens.items c.args.pending c.in_ok-atom-in-Number.atom (number c.in-Number.n c.args.token.start) c.in-Number.is refl refl refl (λ a b d f g. (a, b, d, f, g)) c.requires.token c.requires.ready.small c.requires.ready.there c.in_ok-atom-in-Number.ensures.number c.in_ok-atom-in-Number.ensures.grew
+returns-in_ok-atom-in-Number c = want_arm c.args.bytes.now (lists_of c.args.parts.now) (lists_of c.add_expr.new.parts) c.args.token (kind.Number c.in-Number.n) c.args.expr.body c.args.expr.goal (state.Want c.args.expr) (state.Have c.args.expr c.in_ok-atom-in-Number.atom) c.args.expr.parens.items c.args.expr.pending c.in_ok-atom-in-Number.atom (number c.in-Number.n c.args.token.start) c.in-Number.is refl refl refl (λ a b d f g. (a, b, d, f, g)) c.requires.token c.requires.ready.small c.requires.ready.there c.in_ok-atom-in-Number.ensures.number c.in_ok-atom-in-Number.ensures.grew
 
 pub returns-in_ok-atom-in-True : goal.returns-in_ok-atom-in-True
 unfolding step step_want
-returns-in_ok-atom-in-True c = want_arm c.args.bytes.now (lists_of c.args.parts.now) (lists_of c.add_expr-in-True.new.parts) c.args.token kind.True c.args.body c.args.goal (state.Want c.args.body c.args.goal c.args.parens c.args.pending) (state.Have c.args.body c.args.goal c.args.parens c.args.pending c.in_ok-atom-in-True.atom) c.args.parens.items c.args.pending c.in_ok-atom-in-True.atom (true_value c.args.token.start) c.in-True.is refl refl refl (λ a b d f g. (a, b, d, f, g)) c.requires.token c.requires.ready.small c.requires.ready.there c.in_ok-atom-in-True.ensures.number c.in_ok-atom-in-True.ensures.grew
+returns-in_ok-atom-in-True c = want_arm c.args.bytes.now (lists_of c.args.parts.now) (lists_of c.add_expr-in-True.new.parts) c.args.token kind.True c.args.expr.body c.args.expr.goal (state.Want c.args.expr) (state.Have c.args.expr c.in_ok-atom-in-True.atom) c.args.expr.parens.items c.args.expr.pending c.in_ok-atom-in-True.atom (true_value c.args.token.start) c.in-True.is refl refl refl (λ a b d f g. (a, b, d, f, g)) c.requires.token c.requires.ready.small c.requires.ready.there c.in_ok-atom-in-True.ensures.number c.in_ok-atom-in-True.ensures.grew
 
 pub returns-in_ok-atom-in-False : goal.returns-in_ok-atom-in-False
 unfolding step step_want
-returns-in_ok-atom-in-False c = want_arm c.args.bytes.now (lists_of c.args.parts.now) (lists_of c.add_expr-in-False.new.parts) c.args.token kind.False c.args.body c.args.goal (state.Want c.args.body c.args.goal c.args.parens c.args.pending) (state.Have c.args.body c.args.goal c.args.parens c.args.pending c.in_ok-atom-in-False.atom) c.args.parens.items c.args.pending c.in_ok-atom-in-False.atom (false_value c.args.token.start) c.in-False.is refl refl refl (λ a b d f g. (a, b, d, f, g)) c.requires.token c.requires.ready.small c.requires.ready.there c.in_ok-atom-in-False.ensures.number c.in_ok-atom-in-False.ensures.grew
+returns-in_ok-atom-in-False c = want_arm c.args.bytes.now (lists_of c.args.parts.now) (lists_of c.add_expr-in-False.new.parts) c.args.token kind.False c.args.expr.body c.args.expr.goal (state.Want c.args.expr) (state.Have c.args.expr c.in_ok-atom-in-False.atom) c.args.expr.parens.items c.args.expr.pending c.in_ok-atom-in-False.atom (false_value c.args.token.start) c.in-False.is refl refl refl (λ a b d f g. (a, b, d, f, g)) c.requires.token c.requires.ready.small c.requires.ready.there c.in_ok-atom-in-False.ensures.number c.in_ok-atom-in-False.ensures.grew
 
 pub returns-in_ok-atom-in-Random : goal.returns-in_ok-atom-in-Random
 unfolding step step_want
-returns-in_ok-atom-in-Random c = want_arm c.args.bytes.now (lists_of c.args.parts.now) (lists_of c.add_expr-in-Random.new.parts) c.args.token kind.Random c.args.body c.args.goal (state.Want c.args.body c.args.goal c.args.parens c.args.pending) (state.Have c.args.body c.args.goal c.args.parens c.args.pending c.in_ok-atom-in-Random.atom) c.args.parens.items c.args.pending c.in_ok-atom-in-Random.atom (random_value c.args.token.start) c.in-Random.is refl refl refl (λ a b d f g. (a, b, d, f, g)) c.requires.token c.requires.ready.small c.requires.ready.there c.in_ok-atom-in-Random.ensures.number c.in_ok-atom-in-Random.ensures.grew
+returns-in_ok-atom-in-Random c = want_arm c.args.bytes.now (lists_of c.args.parts.now) (lists_of c.add_expr-in-Random.new.parts) c.args.token kind.Random c.args.expr.body c.args.expr.goal (state.Want c.args.expr) (state.Have c.args.expr c.in_ok-atom-in-Random.atom) c.args.expr.parens.items c.args.expr.pending c.in_ok-atom-in-Random.atom (random_value c.args.token.start) c.in-Random.is refl refl refl (λ a b d f g. (a, b, d, f, g)) c.requires.token c.requires.ready.small c.requires.ready.there c.in_ok-atom-in-Random.ensures.number c.in_ok-atom-in-Random.ensures.grew
 
 pub returns-in_ok-atom-in-Brandom : goal.returns-in_ok-atom-in-Brandom
 unfolding step step_want
-returns-in_ok-atom-in-Brandom c = want_arm c.args.bytes.now (lists_of c.args.parts.now) (lists_of c.add_expr-in-Brandom.new.parts) c.args.token kind.Brandom c.args.body c.args.goal (state.Want c.args.body c.args.goal c.args.parens c.args.pending) (state.Have c.args.body c.args.goal c.args.parens c.args.pending c.in_ok-atom-in-Brandom.atom) c.args.parens.items c.args.pending c.in_ok-atom-in-Brandom.atom (random_value c.args.token.start) c.in-Brandom.is refl refl refl (λ a b d f g. (a, b, d, f, g)) c.requires.token c.requires.ready.small c.requires.ready.there c.in_ok-atom-in-Brandom.ensures.number c.in_ok-atom-in-Brandom.ensures.grew
+returns-in_ok-atom-in-Brandom c = want_arm c.args.bytes.now (lists_of c.args.parts.now) (lists_of c.add_expr-in-Brandom.new.parts) c.args.token kind.Brandom c.args.expr.body c.args.expr.goal (state.Want c.args.expr) (state.Have c.args.expr c.in_ok-atom-in-Brandom.atom) c.args.expr.parens.items c.args.expr.pending c.in_ok-atom-in-Brandom.atom (random_value c.args.token.start) c.in-Brandom.is refl refl refl (λ a b d f g. (a, b, d, f, g)) c.requires.token c.requires.ready.small c.requires.ready.there c.in_ok-atom-in-Brandom.ensures.number c.in_ok-atom-in-Brandom.ensures.grew
 
 pub returns-in_ok-atom-in-Name : goal.returns-in_ok-atom-in-Name
 unfolding step step_want
-returns-in_ok-atom-in-Name c = want_name_arm c.args.bytes.now (lists_of c.args.parts.now) (lists_of c.read_word.new.parts) (lists_of c.add_expr-in-Name.new.parts) c.args.token c.args.body c.args.goal c.args.parens.items (state.Want c.args.body c.args.goal c.args.parens c.args.pending) (state.Have c.args.body c.args.goal c.args.parens c.args.pending c.in_ok-atom-in-Name.atom) c.args.pending c.in_ok-word-in-Name.word c.in_ok-atom-in-Name.atom c.in-Name.is refl refl refl (λ a b d f g. (a, b, d, f, g)) c.requires.token c.requires.ready.small c.requires.ready.there c.in_ok-word-in-Name.ensures c.in_ok-atom-in-Name.ensures.number c.in_ok-atom-in-Name.ensures.grew
+returns-in_ok-atom-in-Name c = want_name_arm c.args.bytes.now (lists_of c.args.parts.now) (lists_of c.read_word.new.parts) (lists_of c.add_expr-in-Name.new.parts) c.args.token c.args.expr.body c.args.expr.goal c.args.expr.parens.items (state.Want c.args.expr) (state.Have c.args.expr c.in_ok-atom-in-Name.atom) c.args.expr.pending c.in_ok-word-in-Name.word c.in_ok-atom-in-Name.atom c.in-Name.is refl refl refl (λ a b d f g. (a, b, d, f, g)) c.requires.token c.requires.ready.small c.requires.ready.there c.in_ok-word-in-Name.ensures c.in_ok-atom-in-Name.ensures.number c.in_ok-atom-in-Name.ensures.grew
 
 pub returns-in_ok-outer-in-LeftParen : goal.returns-in_ok-outer-in-LeftParen
-returns-in_ok-outer-in-LeftParen c = paren_arm c.args.bytes.now (lists_of c.args.parts.now) c.args.token c.args.body c.args.goal (state.Want c.args.body c.args.goal c.args.parens c.args.pending) (state.Want c.args.body c.args.goal c.in_ok-outer-in-LeftParen.outer c.nothing_before.result) c.args.parens.items c.in_ok-outer-in-LeftParen.outer.items c.args.pending c.nothing_before.result c.in-LeftParen.is c.in_ok-outer-in-LeftParen.ensures c.nothing_before.ensures refl refl refl refl (λ a b d f. (a, b, d, f)) c.requires.ready c.requires.token c.requires.ready.there
+returns-in_ok-outer-in-LeftParen c = paren_arm c.args.bytes.now (lists_of c.args.parts.now) c.args.token c.args.expr.body c.args.expr.goal (state.Want c.args.expr) (state.Want (record { body = c.args.expr.body; goal = c.args.expr.goal; parens = c.in_ok-outer-in-LeftParen.outer; pending = c.nothing_before.result })) c.args.expr.parens.items c.in_ok-outer-in-LeftParen.outer.items c.args.expr.pending c.nothing_before.result c.in-LeftParen.is c.in_ok-outer-in-LeftParen.ensures c.nothing_before.ensures refl refl refl refl (λ a b d f. (a, b, d, f)) c.requires.ready c.requires.token c.requires.ready.there
 
 pub returns-in_ok-next-in-Minus : goal.returns-in_ok-next-in-Minus
-returns-in_ok-next-in-Minus c = minus_arm c.args.bytes.now (lists_of c.args.parts.now) c.args.token c.args.body c.args.goal (state.Want c.args.body c.args.goal c.args.parens c.args.pending) (state.Want c.args.body c.args.goal c.args.parens c.in_ok-next-in-Minus.next) c.args.parens.items c.args.pending c.in_ok-next-in-Minus.next c.in-Minus.is c.in_ok-next-in-Minus.ensures refl refl refl refl (λ x. (c.requires.ready.there.0, c.requires.ready.there.1, c.requires.ready.there.2, x)) c.requires.ready c.requires.token c.requires.ready.there.3
+returns-in_ok-next-in-Minus c = minus_arm c.args.bytes.now (lists_of c.args.parts.now) c.args.token c.args.expr.body c.args.expr.goal (state.Want c.args.expr) (state.Want (record { body = c.args.expr.body; goal = c.args.expr.goal; parens = c.args.expr.parens; pending = c.in_ok-next-in-Minus.next })) c.args.expr.parens.items c.args.expr.pending c.in_ok-next-in-Minus.next c.in-Minus.is c.in_ok-next-in-Minus.ensures refl refl refl refl (λ x. (c.requires.ready.there.0, c.requires.ready.there.1, c.requires.ready.there.2, x)) c.requires.ready c.requires.token c.requires.ready.there.3
 
 pub returns-in_ok-next-in-Not : goal.returns-in_ok-next-in-Not
-returns-in_ok-next-in-Not c = not_arm c.args.bytes.now (lists_of c.args.parts.now) c.args.token c.args.body c.args.goal (state.Want c.args.body c.args.goal c.args.parens c.args.pending) (state.Want c.args.body c.args.goal c.args.parens c.in_ok-next-in-Not.next) c.args.parens.items c.args.pending c.in_ok-next-in-Not.next c.in-Not.is (cc (c.takes_not.ensures, c.if-not-takes_not.false)) c.in_ok-next-in-Not.ensures refl refl refl refl (λ x. (c.requires.ready.there.0, c.requires.ready.there.1, c.requires.ready.there.2, x)) c.requires.ready c.requires.token c.requires.ready.there.3
+returns-in_ok-next-in-Not c = not_arm c.args.bytes.now (lists_of c.args.parts.now) c.args.token c.args.expr.body c.args.expr.goal (state.Want c.args.expr) (state.Want (record { body = c.args.expr.body; goal = c.args.expr.goal; parens = c.args.expr.parens; pending = c.in_ok-next-in-Not.next })) c.args.expr.parens.items c.args.expr.pending c.in_ok-next-in-Not.next c.in-Not.is (cc (c.takes_not.ensures, c.if-not-takes_not.false)) c.in_ok-next-in-Not.ensures refl refl refl refl (λ x. (c.requires.ready.there.0, c.requires.ready.there.1, c.requires.ready.there.2, x)) c.requires.ready c.requires.token c.requires.ready.there.3
 
 pub returns-in_default : goal.returns-in_default
 returns-in_default c = refuses_want (trees c.args.bytes.now) _ _ _ _ c.args.token.kind (m.leaf_of c.args.token) c.in_default.not-Number c.in_default.not-Name c.in_default.not-True c.in_default.not-False c.in_default.not-Random c.in_default.not-Brandom c.in_default.not-LeftParen c.in_default.not-Minus c.in_default.not-Not
 
 pub returns-then-not-takes_not : goal.returns-then-not-takes_not
-returns-then-not-takes_not c = not_none c.args.bytes.now (grown (lists_of c.args.parts.now)) c.args.token c.args.body c.args.goal (state.Want c.args.body c.args.goal c.args.parens c.args.pending) c.args.parens.items c.args.pending c.in-Not.is (cc (c.takes_not.ensures, c.if-not-takes_not.true)) refl
+returns-then-not-takes_not c = not_none c.args.bytes.now (grown (lists_of c.args.parts.now)) c.args.token c.args.expr.body c.args.expr.goal (state.Want c.args.expr) c.args.expr.parens.items c.args.expr.pending c.in-Not.is (cc (c.takes_not.ensures, c.if-not-takes_not.true)) refl

@@ -11,19 +11,19 @@ use Rattle.spl_parser.proofs.HaveArms.{open_none, do_none, do_arm}
 use Rattle.spl_parser.proofs.operators.at_do.Goals as goal
 
 pub returns-then-len-gt0 : goal.returns-then-len-gt0
-returns-then-len-gt0 c = λ source. open_none source (grown (lists_of c.args.parts.now)) c.args.token c.args.body c.args.goal (state.Have c.args.body c.args.goal c.args.parens c.args.pending c.args.operand) c.args.parens.items c.args.pending c.args.operand sign.Do c.requires.sign (inr (inr refl)) (search rules) refl
+returns-then-len-gt0 c = λ source. open_none source (grown (lists_of c.args.parts.now)) c.args.token c.args.expr.body c.args.expr.goal (state.Have c.args.expr c.args.operand) c.args.expr.parens.items c.args.expr.pending c.args.operand sign.Do c.requires.sign (inr (inr refl)) (search rules) refl
 
 pub returns-in_ok-next-in-While : goal.returns-in_ok-next-in-While
-returns-in_ok-next-in-While c = λ source. do_arm source (lists_of c.args.parts.now) (lists_of c.closed_whole.new.parts) c.args.token c.args.body c.in_ok-next-in-While.next c.args.goal (state.Have c.args.body c.args.goal c.args.parens c.args.pending c.args.operand) c.args.parens.items c.args.pending c.args.operand c.in_ok-whole-in-While.whole c.in-While.start c.requires.sign (no_parens_le c.args.parens.items (search rules)) c.in-While.is refl c.requires.token c.requires.ready.small c.requires.ready.there.0 c.requires.ready.there.1 c.in_ok-whole-in-While.ensures c.in_ok-next-in-While.ensures
+returns-in_ok-next-in-While c = λ source. do_arm source (lists_of c.args.parts.now) (lists_of c.closed_whole.new.parts) c.args.token c.args.expr.body c.in_ok-next-in-While.next c.args.expr.goal (state.Have c.args.expr c.args.operand) c.args.expr.parens.items c.args.expr.pending c.args.operand c.in_ok-whole-in-While.whole c.in-While.start c.requires.sign (no_parens_le c.args.expr.parens.items (search rules)) c.in-While.is refl c.requires.token c.requires.ready.small c.requires.ready.there.0 c.requires.ready.there.1 c.in_ok-whole-in-While.ensures c.in_ok-next-in-While.ensures
 
 pub returns-in-Assume : goal.returns-in-Assume
 unfolding on_do
-returns-in-Assume c = λ source. do_none source (grown (lists_of c.args.parts.now)) c.args.token c.args.body c.args.goal (goal_.Assume c.in-Assume.field-0) (state.Have c.args.body c.args.goal c.args.parens c.args.pending c.args.operand) c.args.parens.items c.args.pending c.args.operand c.requires.sign (no_parens_le c.args.parens.items (search rules)) c.in-Assume.is refl refl
+returns-in-Assume c = λ source. do_none source (grown (lists_of c.args.parts.now)) c.args.token c.args.expr.body c.args.expr.goal (goal_.Assume c.in-Assume.field-0) (state.Have c.args.expr c.args.operand) c.args.expr.parens.items c.args.expr.pending c.args.operand c.requires.sign (no_parens_le c.args.expr.parens.items (search rules)) c.in-Assume.is refl refl
 
 pub returns-in-Assign : goal.returns-in-Assign
 unfolding on_do
-returns-in-Assign c = λ source. do_none source (grown (lists_of c.args.parts.now)) c.args.token c.args.body c.args.goal (goal_.Assign c.in-Assign.field-0) (state.Have c.args.body c.args.goal c.args.parens c.args.pending c.args.operand) c.args.parens.items c.args.pending c.args.operand c.requires.sign (no_parens_le c.args.parens.items (search rules)) c.in-Assign.is refl refl
+returns-in-Assign c = λ source. do_none source (grown (lists_of c.args.parts.now)) c.args.token c.args.expr.body c.args.expr.goal (goal_.Assign c.in-Assign.field-0) (state.Have c.args.expr c.args.operand) c.args.expr.parens.items c.args.expr.pending c.args.operand c.requires.sign (no_parens_le c.args.expr.parens.items (search rules)) c.in-Assign.is refl refl
 
 pub returns-in-If : goal.returns-in-If
 unfolding on_do
-returns-in-If c = λ source. do_none source (grown (lists_of c.args.parts.now)) c.args.token c.args.body c.args.goal (goal_.If c.in-If.field-0) (state.Have c.args.body c.args.goal c.args.parens c.args.pending c.args.operand) c.args.parens.items c.args.pending c.args.operand c.requires.sign (no_parens_le c.args.parens.items (search rules)) c.in-If.is refl refl
+returns-in-If c = λ source. do_none source (grown (lists_of c.args.parts.now)) c.args.token c.args.expr.body c.args.expr.goal (goal_.If c.in-If.field-0) (state.Have c.args.expr c.args.operand) c.args.expr.parens.items c.args.expr.pending c.args.operand c.requires.sign (no_parens_le c.args.expr.parens.items (search rules)) c.in-If.is refl refl

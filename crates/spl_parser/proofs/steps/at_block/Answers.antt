@@ -12,7 +12,7 @@ use Rattle.spl_parser.specs.Machine.{step, step_block}
 use Rattle.spl_parser.proofs.NameArms.{target_arm}
 use Rattle.spl_parser.proofs.Refusals.{refuses_block}
 use Rattle.spl_parser.proofs.Stay.{still0}
-use Rattle.spl_parser.proofs.FreshArms.{begins_arm}
+use Rattle.spl_parser.proofs.FreshArms.{begins_new}
 use Rattle.spl_parser.specs.declared.state.Goal.TheVariants as goal_of
 use Rattle.spl_parser.proofs.steps.at_block.Goals as goal
 
@@ -52,12 +52,12 @@ returns-in_default c = refuses_block (trees c.args.bytes.now) _ c.args.token.kin
 
 pub returns-in-Assume : goal.returns-in-Assume
 unfolding step step_block
-returns-in-Assume c = begins_arm c.args.bytes.now (lists_of c.args.parts.now) c.args.token kind.Assume c.args.body (goal_of.Assume c.args.token.start) (state.Want c.args.body (goal_of.Assume c.args.token.start) c.new.result c.nothing_before.result) c.new.result.items c.nothing_before.result c.in-Assume.is refl c.new.ensures.items c.nothing_before.ensures refl refl (λ a b d f. (a, b, d, f)) (omega (arith, c.requires.token.filled, c.requires.token.within)) c.requires.ready c.requires.token
+returns-in-Assume c = begins_new c.args.bytes.now (lists_of c.args.parts.now) c.args.token kind.Assume c.args.body (goal_of.Assume c.args.token.start) c.new_expr.result c.in-Assume.is refl c.new_expr.ensures.same c.new_expr.ensures.none c.new_expr.ensures.fresh (omega (arith, c.requires.token.filled, c.requires.token.within)) c.requires.ready c.requires.token
 
 pub returns-in-If : goal.returns-in-If
 unfolding step step_block
-returns-in-If c = begins_arm c.args.bytes.now (lists_of c.args.parts.now) c.args.token kind.If c.args.body (goal_of.If c.args.token.start) (state.Want c.args.body (goal_of.If c.args.token.start) c.new-in-If.result c.nothing_before-in-If.result) c.new-in-If.result.items c.nothing_before-in-If.result c.in-If.is refl c.new-in-If.ensures.items c.nothing_before-in-If.ensures refl refl (λ a b d f. (a, b, d, f)) (omega (arith, c.requires.token.filled, c.requires.token.within)) c.requires.ready c.requires.token
+returns-in-If c = begins_new c.args.bytes.now (lists_of c.args.parts.now) c.args.token kind.If c.args.body (goal_of.If c.args.token.start) c.new_expr-in-If.result c.in-If.is refl c.new_expr-in-If.ensures.same c.new_expr-in-If.ensures.none c.new_expr-in-If.ensures.fresh (omega (arith, c.requires.token.filled, c.requires.token.within)) c.requires.ready c.requires.token
 
 pub returns-in-While : goal.returns-in-While
 unfolding step step_block
-returns-in-While c = begins_arm c.args.bytes.now (lists_of c.args.parts.now) c.args.token kind.While c.args.body (goal_of.While c.args.token.start) (state.Want c.args.body (goal_of.While c.args.token.start) c.new-in-While.result c.nothing_before-in-While.result) c.new-in-While.result.items c.nothing_before-in-While.result c.in-While.is refl c.new-in-While.ensures.items c.nothing_before-in-While.ensures refl refl (λ a b d f. (a, b, d, f)) (omega (arith, c.requires.token.filled, c.requires.token.within)) c.requires.ready c.requires.token
+returns-in-While c = begins_new c.args.bytes.now (lists_of c.args.parts.now) c.args.token kind.While c.args.body (goal_of.While c.args.token.start) c.new_expr-in-While.result c.in-While.is refl c.new_expr-in-While.ensures.same c.new_expr-in-While.ensures.none c.new_expr-in-While.ensures.fresh (omega (arith, c.requires.token.filled, c.requires.token.within)) c.requires.ready c.requires.token

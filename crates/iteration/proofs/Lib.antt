@@ -1,0 +1,10 @@
+pub mod Exact
+pub mod Skipping
+pub mod Heights
+pub mod Sources
+pub mod Solved
+pub mod Ends
+pub mod Starting
+pub mod Layers
+pub mod Ordered
+pub mod Headline

@@ -1,0 +1,5 @@
+pub mod Rounds
+pub mod Solved
+pub mod Height
+pub mod Ends
+pub mod Sound
