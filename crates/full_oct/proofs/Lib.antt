@@ -10,4 +10,3 @@ pub mod Taking
 pub mod Ranging
 pub mod Forming
 pub mod Testing
-pub mod Worked

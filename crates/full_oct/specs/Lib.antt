@@ -3,4 +3,3 @@ pub mod Value
 pub mod Places
 pub mod Taken
 pub mod Formed
-pub mod Examples
