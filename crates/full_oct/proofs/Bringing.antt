@@ -1,5 +1,5 @@
 -- What an exit says, brought to a caller's matrix entry by entry.
-use Rattle.std.proofs.Common.{◌≡◌, ◌⊎◌, inl, inr, ℕ, ◌+◌, ◌-◌, ◌*◌, ◌/◌, ◌%◌, ◌<◌, ◌≤◌, ◌&&◌, Bool, true, false, cond, eqb, Some, None, List, length, get_or, refl, sym, ap, subst, ◌∙◌, arith, add-one, nat_eq, nat_lt, lt-ltb, le-ltb, eq-eqb, ne_eqb}
+use Rattle.std.proofs.Common.{◌≡◌, ◌⊎◌, inl, inr, ℕ, ◌+◌, ◌-◌, ◌*◌, ◌/◌, ◌%◌, ◌<◌, ◌≤◌, ◌&&◌, Bool, true, false, cond, None, List, length, get_or, refl, sym, ap, subst, ◌∙◌, arith, add-one, nat_eq, nat_lt, lt-ltb, le-ltb, eq-eqb, ne_eqb}
 use Rattle.std.specs.List.{All}
 use Rattle.std.proofs.lemmas.Bool.{cases_eq}
 use Rattle.oct_def.specs.Bound.{Bound, least}

@@ -1,8 +1,7 @@
 -- The entries at a callee's entry.
-use Rattle.std.proofs.Common.{◌≡◌, ◌≢◌, ℕ, ◌+◌, ◌*◌, ◌/◌, ◌%◌, ◌<◌, ◌&&◌, Bool, true, false, cond, Some, None, List, length, get_or, sym, ap, ◌∙◌, arith, nat_lt, eq-eqb, ne_eqb}
+use Rattle.std.proofs.Common.{◌≡◌, ◌≢◌, ℕ, ◌*◌, ◌/◌, ◌<◌, ◌&&◌, true, false, cond, Some, None, List, length, sym, ap, ◌∙◌, arith, nat_lt, eq-eqb, ne_eqb}
 use Rattle.std.specs.Prelude.{pos}
 use Rattle.std.specs.List.{All}
-use Rattle.oct_def.specs.Bound.{Bound}
 use Rattle.oct_def.specs.Table.{Matrix, at}
 use Rattle.transfer_def.specs.Enter.{argument_dimension, input_entry, enter_entry}
 

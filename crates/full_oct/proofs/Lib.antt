@@ -9,3 +9,4 @@ pub mod Values
 pub mod Taking
 pub mod Ranging
 pub mod Forming
+pub mod Testing

@@ -7,14 +7,15 @@ mod bounds;
 mod calls;
 mod closing;
 mod dimensions;
-mod domain;
 mod equation;
 mod lattice;
 mod matrix;
+mod plain;
 mod ranges;
+mod test;
 mod value;
 
-pub use domain::FullDomain;
+pub use plain::FullDomain;
 pub use value::FullValue;
 
 #[cfg(test)]

@@ -1,4 +1,4 @@
-use Rattle.std.proofs.Common.{◌≡◌, ◌+◌, ◌*◌, ◌/◌, ◌%◌, ◌<◌, ◌∷◌, [], ◌++◌, length, length-append, ap, sym, ◌∙◌, arith}
+use Rattle.std.proofs.Common.{◌≡◌, ◌+◌, ◌*◌, ◌/◌, ◌%◌, ◌∷◌, [], length, length-append, ap, sym, ◌∙◌, arith}
 use Rattle.transfer_def.specs.Dimensions.{moved_variable, moved_dimension}
 use Rattle.transfer_def.proofs.Dimensions.{moved_dimension-below}
 use Rattle.full_oct.proofs.Places.{each_more}

@@ -3,7 +3,7 @@ use Rattle.oct_def.specs.Octagon.{Octagon}
 use Rattle.spl_core.specs.Expression.{Number, Variable, Add}
 use Rattle.transfer_def.specs.Assign.{assigned}
 use Rattle.full_oct.proofs.Values.{matrix_read, assign_bottom, assign_kept, assign_is}
-use Rattle.full_oct.proofs.domain.FullDomain.assign_sum.Goals as goal
+use Rattle.full_oct.proofs.plain.FullDomain.assign_sum.Goals as goal
 
 pub assigned_sum-requires-clause-value : goal.assigned_sum-requires-clause-value
 assigned_sum-requires-clause-value c =

@@ -3,7 +3,7 @@ use Rattle.oct_def.specs.Octagon.{Octagon}
 use Rattle.spl_core.specs.Expression.{Variable}
 use Rattle.transfer_def.specs.Assign.{assigned}
 use Rattle.full_oct.proofs.Values.{matrix_read, assign_bottom, assign_kept, assign_is}
-use Rattle.full_oct.proofs.domain.FullDomain.assign_copy.Goals as goal
+use Rattle.full_oct.proofs.plain.FullDomain.assign_copy.Goals as goal
 
 pub assigned_copy-requires-clause-value : goal.assigned_copy-requires-clause-value
 assigned_copy-requires-clause-value c =

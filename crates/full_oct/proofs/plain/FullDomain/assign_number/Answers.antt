@@ -3,7 +3,7 @@ use Rattle.oct_def.specs.Octagon.{Octagon}
 use Rattle.spl_core.specs.Expression.{Number}
 use Rattle.transfer_def.specs.Assign.{assigned}
 use Rattle.full_oct.proofs.Values.{matrix_read, assign_bottom, assign_kept, assign_is}
-use Rattle.full_oct.proofs.domain.FullDomain.assign_number.Goals as goal
+use Rattle.full_oct.proofs.plain.FullDomain.assign_number.Goals as goal
 
 pub assigned_number-requires-clause-value : goal.assigned_number-requires-clause-value
 assigned_number-requires-clause-value c =

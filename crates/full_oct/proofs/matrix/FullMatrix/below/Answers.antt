@@ -1,0 +1,25 @@
+use Rattle.std.proofs.Common.{length}
+use Rattle.spl_core.specs.Graph.{expr_at, exprs_in}
+use Rattle.interval_form.specs.Sparse.{form_in}
+use Rattle.full_oct.proofs.Forming.{over-ranges}
+use Rattle.full_oct.proofs.Testing.{rows-ranges, below-is}
+use Rattle.full_oct.proofs.matrix.FullMatrix.below.Goals as goal
+
+pub difference-requires-clause-over_first : goal.difference-requires-clause-over_first
+difference-requires-clause-over_first c = over-ranges c.args.dims c.args.self.now c.in_ok-ranges.ranges (expr_at (exprs_in c.args.core.now) c.args.a) c.in_ok-ranges.ensures.ranges c.requires.over_first
+
+pub difference-requires-clause-over_second : goal.difference-requires-clause-over_second
+difference-requires-clause-over_second c = over-ranges c.args.dims c.args.self.now c.in_ok-ranges.ranges (expr_at (exprs_in c.args.core.now) c.args.b) c.in_ok-ranges.ensures.ranges c.requires.over_second
+
+pub restricted-requires-clause-rows : goal.restricted-requires-clause-rows
+restricted-requires-clause-rows c = rows-ranges c.args.dims c.args.self.now c.in_ok-ranges.ranges (length c.args.self.now) c.in_ok-ranges.ensures.ranges c.requires.rows
+
+pub returns : goal.returns
+returns c =
+    let trees = exprs_in c.args.core.now in
+    let n = length c.in_ok-ranges.ranges in
+    below-is c.args.dims (expr_at trees c.args.a) (expr_at trees c.args.b) c.args.self.now c.in_ok-ranges.ranges (form_in n c.in_ok-form.form) (form_in n c.in_ok-and_one.and_one) (form_in n c.in_ok-minus_one.minus_one) c.in_ok-after.after
+    c.in_ok-ranges.ensures.ranges c.in_ok-form.ensures.form (c.in_ok-minus_one.ensures.form n) c.in_ok-and_one.ensures.form c.in_ok-after.ensures
+
+pub minus-requires-clause-right : goal.minus-requires-clause-right
+minus-requires-clause-right c = c.in_ok-minus_one.ensures.over (length c.in_ok-ranges.ranges)
