@@ -6,3 +6,5 @@
 mod checks;
 #[cfg(test)]
 mod cores;
+#[cfg(test)]
+mod graphs;
