@@ -4,3 +4,7 @@
 
 #[cfg(test)]
 mod checks;
+#[cfg(test)]
+mod cores;
+#[cfg(test)]
+mod graphs;
