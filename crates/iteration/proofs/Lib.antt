@@ -8,3 +8,13 @@ pub mod Starting
 pub mod Layers
 pub mod Ordered
 pub mod Headline
+pub mod Copies
+pub mod Sized
+pub mod Fitting
+pub mod Stepped
+pub mod Visited
+pub mod Rounding
+pub mod Capacity
+pub mod Solving
+pub mod Planned
+pub mod Calling

@@ -1,0 +1,77 @@
+-- Calls and returns in the code, and what is read at a point.
+use Rattle.std.proofs.Common.{◌≡◌, ℕ, ◌+◌, ◌<◌, ◌≤◌, Bool, true, false, cond, List, length, get_or, sym, ap, subst, arith, ◌∙◌}
+use Rattle.std.proofs.lemmas.List.{get_or-map, length-map}
+use Rattle.oct_def.specs.Octagon.{Octagon, tight_value}
+use Rattle.spl_core.specs.declared.parts.Action.{Action}
+use Rattle.spl_core.specs.declared.parts.Action.TheVariants as action
+use Rattle.spl_core.specs.declared.parts.Proc.{Proc}
+use Rattle.spl_core.specs.declared.parts.Span.{Span}
+use Rattle.spl_core.specs.Parts.{Parts, no_proc, proc_at, span_dims}
+use Rattle.spl_core.specs.Facts.{IsCore, ActionFits, CallFits}
+use Rattle.spl_core.specs.Graph.{graph_of, move_of}
+use Rattle.spl_core.proofs.Graphs.{span_length}
+use Rattle.transfer_def.specs.Enter.{enter_value}
+use Rattle.transfer_def.specs.Back.{back_value}
+use Rattle.call_graph.specs.Order.{is_cut}
+use Rattle.equations.specs.Equations.{entered_by, returned_by}
+use Rattle.iteration.specs.declared.slot.Slot.{Slot}
+use Rattle.iteration.specs.Rounds.{Cell, cell_at, no_cell}
+use Rattle.iteration.specs.Solved.{values_in}
+use Rattle.iteration.specs.Ends.{AreCells}
+use Rattle.iteration.specs.Slots.{cell_of, cells_of}
+use Rattle.iteration.specs.Plan.{reading}
+use Rattle.iteration.proofs.Sized.{read-dims, points, proc-dims}
+
+pub enter_call : (c : Parts) (a : Action) (callee : ℕ) (args targets : Span) (v r : Octagon) (items : List ℕ) (q : Proc) → a ≡ action.Call callee args targets
+    → items ≡ span_dims c args → q ≡ proc_at c callee → r ≡ enter_value v items q.dims → r ≡ entered_by (graph_of c) (move_of c a) v
+unfolding graph_of
+enter_call c a callee args targets v r items q e i p h =
+    h ∙ ap (λ (xs : List ℕ). enter_value v xs q.dims) i ∙ ap (λ (x : Proc). enter_value v (span_dims c args) x.dims) p
+    ∙ sym (ap (λ (x : Action). entered_by (graph_of c) (move_of c x) v) e)
+
+pub return_call : (c : Parts) (read : ℕ → Octagon) (a : Action) (callee : ℕ) (args targets : Span) (v exit r : Octagon) (items outs : List ℕ) (q : Proc) → a ≡ action.Call callee args targets
+    → items ≡ span_dims c args → outs ≡ span_dims c targets → q ≡ proc_at c callee → exit ≡ read q.exit → r ≡ back_value v exit items q.outputs outs
+    → r ≡ returned_by (graph_of c) read (move_of c a) v
+unfolding graph_of
+return_call c read a callee args targets v exit r items outs q e i o p x h =
+    h ∙ ap (λ (xs : List ℕ). back_value v exit xs q.outputs outs) i
+    ∙ ap (λ (xs : List ℕ). back_value v exit (span_dims c args) q.outputs xs) o
+    ∙ ap (λ (w : Octagon). back_value v w (span_dims c args) q.outputs (span_dims c targets)) x
+    ∙ ap (λ (y : Proc). back_value v (read y.exit) (span_dims c args) y.outputs (span_dims c targets)) p
+    ∙ sym (ap (λ (y : Action). returned_by (graph_of c) read (move_of c y) v) e)
+
+-- the exit's value has the callee's inputs and outputs
+pub outputs_inside : (c : Parts) (p : Proc) (a : Action) (callee : ℕ) (args targets : Span) (cells : List Cell) (items : List ℕ) (q : Proc) (exit : Octagon) → IsCore c → AreCells (graph_of c) cells
+    → ActionFits c p a → a ≡ action.Call callee args targets → items ≡ span_dims c args → q ≡ proc_at c callee → exit ≡ reading c cells q.exit → length items + q.outputs ≤ exit.dims
+outputs_inside c p a callee args targets cells items q exit core sized f e i is h =
+    let fit : CallFits c p callee args targets = subst (ActionFits c p) e f in
+    let inside : callee < length c.procs = omega (arith, fit.callee_in_range) in
+    let row = core.procs callee no_proc inside in
+    let count : length items ≡ args.count = ap (λ (xs : List ℕ). length xs) i ∙ span_length c args fit.args_fit.0 in
+    let there : (proc_at c callee).exit < length (graph_of c).owners = subst (λ (n : ℕ). (proc_at c callee).exit < n) (sym (points c)) row.exit in
+    let dims : exit.dims ≡ (proc_at c callee).dims =
+    ap (λ (o : Octagon). o.dims) h ∙ ap (λ (y : Proc). (reading c cells y.exit).dims) is
+    ∙ read-dims c cells (proc_at c callee).exit sized there ∙ proc-dims c (proc_at c callee).exit ∙ ap (λ (o : ℕ). (proc_at c o).dims) row.owns_exit in
+    let outs : q.outputs ≡ (proc_at c callee).outputs = ap (λ (y : Proc). y.outputs) is in
+    omega (arith, count, fit.arguments, outs, dims, row.within)
+
+-- ---- reading
+
+pub slots_long : {V : Type 0} → (meaning : V → Octagon) (c : Parts) (slots : List (Slot V)) → AreCells (graph_of c) (cells_of meaning slots) → length slots ≡ length c.owners
+slots_long meaning c slots h = sym (length-map slots (cell_of meaning)) ∙ h.points ∙ points c
+
+stored : {V : Type 0} → (meaning : V → Octagon) (slots : List (Slot V)) (p : ℕ) (s : Slot V) → p < length slots → s ≡ get_or slots p s → (cell_at (cells_of meaning slots) p).value ≡ meaning s.value
+stored {V} meaning slots p s l e =
+    ap (λ (x : Cell). x.value) (get_or-map (cell_of meaning) slots p s no_cell l) ∙ sym (ap (λ (x : Slot V). meaning x.value) e)
+
+pub read_closed : {V : Type 0} → (meaning : V → Octagon) (c : Parts) (slots : List (Slot V)) (p : ℕ) (s : Slot V) (v : Octagon) → p < length slots → s ≡ get_or slots p s
+    → true ≡ is_cut (graph_of c) p → v ≡ tight_value (meaning s.value) → v ≡ reading c (cells_of meaning slots) p
+read_closed meaning c slots p s v l e t h =
+    h ∙ ap tight_value (sym (stored meaning slots p s l e))
+    ∙ ap (λ (b : Bool). cond b (tight_value (values_in (cells_of meaning slots) p)) (values_in (cells_of meaning slots) p)) t
+
+pub read_stored : {V : Type 0} → (meaning : V → Octagon) (c : Parts) (slots : List (Slot V)) (p : ℕ) (s : Slot V) (v : Octagon) → p < length slots → s ≡ get_or slots p s
+    → false ≡ is_cut (graph_of c) p → v ≡ meaning s.value → v ≡ reading c (cells_of meaning slots) p
+read_stored meaning c slots p s v l e t h =
+    h ∙ sym (stored meaning slots p s l e)
+    ∙ ap (λ (b : Bool). cond b (tight_value (values_in (cells_of meaning slots) p)) (values_in (cells_of meaning slots) p)) t

@@ -1,0 +1,94 @@
+use Rattle.std.proofs.Common.{ap, sym, subst, ◌∙◌}
+use Rattle.oct_def.specs.Octagon.{top_value}
+use Rattle.spl_core.specs.declared.parts.Proc.{Proc}
+use Rattle.spl_core.specs.Parts.{Parts, edge_at}
+use Rattle.spl_core.specs.Graph.{graph_of, move_of}
+use Rattle.transfer_def.specs.Move.{IsMoveOver, move_value}
+use Rattle.equations.specs.declared.source.Source.TheVariants.{Flow, Enter, Back}
+use Rattle.equations.specs.Equations.{brought, entered_by}
+use Rattle.iteration.specs.Slots.{cells_of}
+use Rattle.iteration.specs.Plan.{SourceFits, reading}
+use Rattle.iteration.proofs.Sized.{proc-dims}
+use Rattle.iteration.proofs.Fitting.{old-dims, move_over, flow_is, enter_is, back_is}
+use Rattle.iteration.proofs.equation.brought.Goals as goal
+
+pub moved-requires-clause-over : goal.moved-requires-clause-over
+moved-requires-clause-over g c =
+    let m = g.D.Domain.meaning in
+    let s = c.args.system.now in
+    let e = c.in-Flow.edge in
+    let fits : SourceFits s c.args.p (Flow e) = subst (SourceFits s c.args.p) c.in-Flow.is c.requires.source in
+    subst (λ (k : Parts). IsMoveOver (m c.in_ok-old-in-Flow.old).dims (move_of k c.edge_at-edge.result.action)) (sym c.core-core.ensures.value)
+    (move_over s (cells_of m c.args.slots.now) e c.edge_at-edge.result (m c.in_ok-old-in-Flow.old) c.core-core.ensures.known c.requires.sized fits.0
+    (c.edge_at-edge.ensures.found ∙ ap (λ (k : Parts). edge_at k e) c.core-core.ensures.value) c.in_ok-old-in-Flow.ensures.value)
+
+pub moved-requires-clause-dims : goal.moved-requires-clause-dims
+moved-requires-clause-dims g c =
+    let m = g.D.Domain.meaning in
+    let s = c.args.system.now in
+    let e = c.in-Flow.edge in
+    let fits : SourceFits s c.args.p (Flow e) = subst (SourceFits s c.args.p) c.in-Flow.is c.requires.source in
+    ap (λ (q : Proc). q.dims) c.proc_owning-dims.ensures.found
+    ∙ sym (old-dims s (cells_of m c.args.slots.now) e c.edge_at-edge.result (m c.in_ok-old-in-Flow.old) c.core-core.ensures.known c.requires.sized fits.0
+    (c.edge_at-edge.ensures.found ∙ ap (λ (k : Parts). edge_at k e) c.core-core.ensures.value) c.in_ok-old-in-Flow.ensures.value)
+
+pub entered-requires-clause-dims : goal.entered-requires-clause-dims
+entered-requires-clause-dims g c =
+    let m = g.D.Domain.meaning in
+    let s = c.args.system.now in
+    let e = c.in-Enter.edge in
+    let fits : SourceFits s c.args.p (Enter e) = subst (SourceFits s c.args.p) c.in-Enter.is c.requires.source in
+    old-dims s (cells_of m c.args.slots.now) e c.edge_at-edge-in-Enter.result (m c.in_ok-old-in-Enter.old) c.core-core.ensures.known c.requires.sized fits.0
+    (c.edge_at-edge-in-Enter.ensures.found ∙ ap (λ (k : Parts). edge_at k e) c.core-core.ensures.value) c.in_ok-old-in-Enter.ensures.value
+    ∙ sym (ap (λ (q : Proc). q.dims) c.proc_owning-caller.ensures.found)
+
+pub returned-requires-clause-dims : goal.returned-requires-clause-dims
+returned-requires-clause-dims g c =
+    let m = g.D.Domain.meaning in
+    let s = c.args.system.now in
+    let e = c.in-Back.edge in
+    let fits : SourceFits s c.args.p (Back e) = subst (SourceFits s c.args.p) c.in-Back.is c.requires.source in
+    old-dims s (cells_of m c.args.slots.now) e c.edge_at-edge-in-Back.result (m c.in_ok-old-in-Back.old) c.core-core.ensures.known c.requires.sized fits.0
+    (c.edge_at-edge-in-Back.ensures.found ∙ ap (λ (k : Parts). edge_at k e) c.core-core.ensures.value) c.in_ok-old-in-Back.ensures.value
+    ∙ sym (ap (λ (q : Proc). q.dims) c.proc_owning-caller-in-Back.ensures.found)
+
+pub returns-in_ok-v-in-Always-clause-value : goal.returns-in_ok-v-in-Always-clause-value
+returns-in_ok-v-in-Always-clause-value g c =
+    let m = g.D.Domain.meaning in
+    let s = c.args.system.now in
+    c.in_ok-v-in-Always.ensures.value
+    ∙ ap top_value (ap (λ (q : Proc). q.dims) c.proc_owning.ensures.found ∙ sym (proc-dims s c.args.p))
+    ∙ sym (ap (brought (graph_of s) (reading s (cells_of m c.args.slots.now)) c.args.p) c.in-Always.is)
+
+pub returns-in_ok-v-in-Flow-clause-value : goal.returns-in_ok-v-in-Flow-clause-value
+returns-in_ok-v-in-Flow-clause-value g c =
+    let m = g.D.Domain.meaning in
+    let s = c.args.system.now in
+    let e = c.in-Flow.edge in
+    let r = reading s (cells_of m c.args.slots.now) in
+    flow_is s r c.args.p e c.edge_at-edge.result (m c.in_ok-old-in-Flow.old) (m c.in_ok-v-in-Flow.v)
+    (c.edge_at-edge.ensures.found ∙ ap (λ (k : Parts). edge_at k e) c.core-core.ensures.value) c.in_ok-old-in-Flow.ensures.value
+    (c.in_ok-v-in-Flow.ensures.value ∙ ap (λ (k : Parts). move_value (move_of k c.edge_at-edge.result.action) (m c.in_ok-old-in-Flow.old)) c.core-core.ensures.value)
+    ∙ sym (ap (brought (graph_of s) r c.args.p) c.in-Flow.is)
+
+pub returns-in_ok-v-in-Enter-clause-value : goal.returns-in_ok-v-in-Enter-clause-value
+returns-in_ok-v-in-Enter-clause-value g c =
+    let m = g.D.Domain.meaning in
+    let s = c.args.system.now in
+    let e = c.in-Enter.edge in
+    let r = reading s (cells_of m c.args.slots.now) in
+    enter_is s r c.args.p e c.edge_at-edge-in-Enter.result (m c.in_ok-old-in-Enter.old) (m c.in_ok-v-in-Enter.v)
+    (c.edge_at-edge-in-Enter.ensures.found ∙ ap (λ (k : Parts). edge_at k e) c.core-core.ensures.value) c.in_ok-old-in-Enter.ensures.value
+    (c.in_ok-v-in-Enter.ensures.value ∙ ap (λ (k : Parts). entered_by (graph_of k) (move_of k c.edge_at-edge-in-Enter.result.action) (m c.in_ok-old-in-Enter.old)) c.core-core.ensures.value)
+    ∙ sym (ap (brought (graph_of s) r c.args.p) c.in-Enter.is)
+
+pub returns-in_ok-v-in-Back-clause-value : goal.returns-in_ok-v-in-Back-clause-value
+returns-in_ok-v-in-Back-clause-value g c =
+    let m = g.D.Domain.meaning in
+    let s = c.args.system.now in
+    let e = c.in-Back.edge in
+    let r = reading s (cells_of m c.args.slots.now) in
+    back_is s r c.args.p e c.edge_at-edge-in-Back.result (m c.in_ok-old-in-Back.old) (m c.in_ok-v-in-Back.v)
+    (c.edge_at-edge-in-Back.ensures.found ∙ ap (λ (k : Parts). edge_at k e) c.core-core.ensures.value) c.in_ok-old-in-Back.ensures.value
+    c.in_ok-v-in-Back.ensures.value
+    ∙ sym (ap (brought (graph_of s) r c.args.p) c.in-Back.is)

@@ -1,0 +1,13 @@
+use Rattle.std.proofs.Common.{◌≡◌, ◌≤◌, take}
+use Rattle.std.specs.List.{fold}
+use Rattle.oct_def.specs.Octagon.{bottom_value}
+use Rattle.spl_core.specs.Graph.{graph_of, dims_at}
+use Rattle.equations.specs.Sources.{sources}
+use Rattle.equations.specs.Equations.{with_source}
+use Rattle.iteration.specs.Plan.{reading}
+use Rattle.iteration.specs.Slots.{cells_of}
+use Rattle.iteration.proofs.equation.equation.Given as goal
+
+abbrev pub invariant-loop-source : goal.invariant-loop-source
+invariant-loop-source g l = (g.D.Domain.meaning l.value ≡ fold (with_source (graph_of l.system) (reading l.system (cells_of g.D.Domain.meaning l.slots)) l.p) (bottom_value (dims_at (graph_of l.system) l.p)) (take l.source-index (sources (graph_of l.system) l.p)))
+    × (g.D.Domain.work l.fn.dom ≤ g.D.Domain.work l.dom)

@@ -1,0 +1,82 @@
+//! One visit of a point.
+ghost use Rattle.std.specs.Prelude.{◌≡◌, ◌-◌, ◌<◌, ◌≤◌, not, if◌then◌else◌, length, IfOk};
+ghost use Rattle.spl_core.specs.Graph.{graph_of};
+ghost use Rattle.iteration.specs.Ends.{AreCells};
+ghost use Rattle.iteration.specs.Plan.{moving};
+ghost use Rattle.iteration.specs.Rounds.{same_value, cell_at, stepped, visit};
+ghost use Rattle.iteration.specs.Slots.{cell_of, cells_of};
+
+use crate::equation::equation;
+use crate::slot::Slot;
+use crate::system::System;
+use domain::Domain;
+use memory::NoMemory;
+use std::alloc::Global;
+
+/// The new value of a point, from the stored one and what F gives.
+fn new_value<D: Domain>(
+    alloc: Global,
+    dom: &mut D,
+    down: bool,
+    cut: bool,
+    slot: &Slot<D::V>,
+    source: D::V,
+) -> Result<D::V, NoMemory>
+    requires dims { (D.meaning slot.now.value).dims ≡ (D.meaning source).dims }
+    ensures value { IfOk result (λ v. D.meaning v ≡ (stepped down cut (cell_of D.meaning slot.now) (D.meaning source)).value) }
+    ensures work { D.work dom.old ≤ D.work dom.new }
+{
+    if !cut {
+        Ok(source)
+    } else if down {
+        let v = dom.narrow(alloc, &slot.value, &source)?;
+        Ok(v)
+    } else if slot.left == 0 {
+        let v = dom.widen(alloc, &slot.value, &source)?;
+        Ok(v)
+    } else {
+        let v = dom.join(alloc, &slot.value, &source)?;
+        Ok(v)
+    }
+}
+
+/// The joins that are left after a change.
+fn left_after(down: bool, cut: bool, left: u32) -> u32
+    ensures { result ≡ (if down then left else (if cut then left - 1 else left)) }
+{
+    if down {
+        left
+    } else if cut {
+        left.saturating_sub(1)
+    } else {
+        left
+    }
+}
+
+/// Visits a point. The answer is whether its value changed.
+pub(crate) fn visit<D: Domain>(
+    alloc: Global,
+    dom: &mut D,
+    system: &System,
+    down: bool,
+    slots: &mut Vec<Slot<D::V>>,
+    p: u32,
+) -> Result<bool, NoMemory>
+    requires point { p < length system.now.owners }
+    requires sized { AreCells (graph_of system.now) (cells_of D.meaning slots.old.items) }
+    ensures cells { IfOk result (λ c. cells_of D.meaning slots.new.items ≡ visit (moving system.now down) p (cells_of D.meaning slots.old.items)) }
+    ensures changed { IfOk result (λ c. c ≡ not (same_value (moving system.now down p (cells_of D.meaning slots.old.items)).value (cell_at (cells_of D.meaning slots.old.items) p).value)) }
+    ensures work { D.work dom.old ≤ D.work dom.new }
+{
+    let from = equation(alloc, dom, system, slots, p)?;
+    let cut = system.is_cut(p);
+    let value = new_value(alloc, dom, down, cut, &slots[p as usize], from)?;
+    let same = dom.same(&value, &slots[p as usize].value);
+    if same {
+        Ok(false)
+    } else {
+        let left = left_after(down, cut, slots[p as usize].left);
+        slots[p as usize] = Slot { value, left };
+        Ok(true)
+    }
+}
