@@ -10,10 +10,9 @@ use Rattle.spl_core.specs.Parts.{Parts, no_proc, proc_at, span_dims}
 use Rattle.spl_core.specs.Facts.{IsCore, ActionFits, CallFits}
 use Rattle.spl_core.specs.Graph.{graph_of, move_of}
 use Rattle.spl_core.proofs.Graphs.{span_length}
-use Rattle.transfer_def.specs.Enter.{enter_value}
 use Rattle.transfer_def.specs.Back.{back_value}
 use Rattle.call_graph.specs.Order.{is_cut}
-use Rattle.equations.specs.Equations.{entered_by, returned_by}
+use Rattle.equations.specs.Equations.{returned_by}
 use Rattle.iteration.specs.declared.slot.Slot.{Slot}
 use Rattle.iteration.specs.Rounds.{Cell, cell_at, no_cell}
 use Rattle.iteration.specs.Solved.{values_in}
@@ -21,13 +20,6 @@ use Rattle.iteration.specs.Ends.{AreCells}
 use Rattle.iteration.specs.Slots.{cell_of, cells_of}
 use Rattle.iteration.specs.Plan.{reading}
 use Rattle.iteration.proofs.Sized.{read-dims, points, proc-dims}
-
-pub enter_call : (c : Parts) (a : Action) (callee : ℕ) (args targets : Span) (v r : Octagon) (items : List ℕ) (q : Proc) → a ≡ action.Call callee args targets
-    → items ≡ span_dims c args → q ≡ proc_at c callee → r ≡ enter_value v items q.dims → r ≡ entered_by (graph_of c) (move_of c a) v
-unfolding graph_of
-enter_call c a callee args targets v r items q e i p h =
-    h ∙ ap (λ (xs : List ℕ). enter_value v xs q.dims) i ∙ ap (λ (x : Proc). enter_value v (span_dims c args) x.dims) p
-    ∙ sym (ap (λ (x : Action). entered_by (graph_of c) (move_of c x) v) e)
 
 pub return_call : (c : Parts) (read : ℕ → Octagon) (a : Action) (callee : ℕ) (args targets : Span) (v exit r : Octagon) (items outs : List ℕ) (q : Proc) → a ≡ action.Call callee args targets
     → items ≡ span_dims c args → outs ≡ span_dims c targets → q ≡ proc_at c callee → exit ≡ read q.exit → r ≡ back_value v exit items q.outputs outs

@@ -8,7 +8,6 @@ use Rattle.spl_core.specs.declared.parts.Edge.{Edge}
 use Rattle.spl_core.specs.Parts.{Parts, edge_at, no_edge, owner_of, proc_at}
 use Rattle.spl_core.specs.Facts.{EdgeFits, IsCore}
 use Rattle.spl_core.specs.Graph.{Move, skips, assigns, havocs, tests, calls, starts, Arc, arc_at, arc_of, move_of, graph_of}
-use Rattle.spl_core.specs.GraphFacts.{ActionIsIn}
 use Rattle.spl_core.proofs.Graphs.{arc_is, arc_count, cores_are_graphs}
 use Rattle.transfer_def.specs.Move.{move_value, IsMoveOver}
 use Rattle.transfer_def.proofs.Moves.{over-fits}
@@ -92,11 +91,6 @@ source_fits c p items i d e l = fit-at c p items i d l (subst (AllFit c p) (sym 
 
 pub edge_fits : (c : Parts) (e : ℕ) (edge : Edge) → IsCore c → e < length c.edges → edge ≡ edge_at c e → EdgeFits c edge
 edge_fits c e edge core l is = subst (EdgeFits c) (sym is) (core.edges e no_edge l)
-
-pub action_is_in : (c : Parts) (e : ℕ) (edge : Edge) → IsCore c → e < length c.edges → edge ≡ edge_at c e → ActionIsIn c edge.action
-action_is_in c e edge core l is =
-    let f = cores_are_graphs c core in
-    subst (λ (x : Edge). ActionIsIn c x.action) (sym is) (f.0.edges e no_edge l)
 
 pub old-dims : (c : Parts) (cells : List Cell) (e : ℕ) (edge : Edge) (old : Octagon) → IsCore c → AreCells (graph_of c) cells → e < length c.edges → edge ≡ edge_at c e → old ≡ reading c cells edge.source
     → old.dims ≡ (proc_at c (owner_of c edge.source)).dims

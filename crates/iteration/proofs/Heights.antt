@@ -91,10 +91,6 @@ finite-table : (n : ℕ) (f : ℕ → ℕ → Bound) → finite_of (length (tabl
 finite-table n f = subst (λ k. finite_of k (at (table n f)) ≤ finite_of n f) (sym (length-table n f))
     (finite-most n f (at (table n f)) (λ i j p q e. subst (λ b. is_finite b ≡ true) (at-table n f i j p q) e))
 
-table-finite : (n : ℕ) (f : ℕ → ℕ → Bound) → finite_of n f ≤ finite_of (length (table n f)) (at (table n f))
-table-finite n f = subst (λ k. finite_of n f ≤ finite_of k (at (table n f))) (sym (length-table n f))
-    (finite-most n (at (table n f)) f (λ i j p q e. subst (λ b. is_finite b ≡ true) (sym (at-table n f i j p q)) e))
-
 -- ---- join and widening
 
 greatest-finite : (a b : Bound) → is_finite (greatest a b) ≡ true → is_finite a ≡ true

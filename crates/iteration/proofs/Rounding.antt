@@ -46,9 +46,6 @@ rounded-visit c down order more p start old new changed here now longer lt so is
       ∙ sym (changing-more (moving c down) order p start) ∙ ap (λ (o : List ℕ). changing (moving c down) o start) (sym longer);
 }
 
-pub rounded-none : (c : Parts) (down : Bool) (start : List Cell) → AreCells (graph_of c) start → Rounded c down [] start start false
-rounded-none c down start sized = record { visited = refl; sized = sized; flag = refl }
-
 -- the points of the order are points
 pub point_in : (c : Parts) (items : List ℕ) (i d : ℕ) → IsCore c → items ≡ order (graph_of c) → i < length items → get_or items i d < length c.owners
 point_in c items i d core e l =

@@ -6,7 +6,7 @@ use Rattle.std.proofs.lemmas.Bool.Decides.{nat_tests, Decides-eqb, Decides-int_e
 use Rattle.oct_def.specs.Bound.{Bound}
 use Rattle.oct_def.specs.Table.{Matrix}
 use Rattle.oct_def.specs.Octagon.{Octagon, join_value, widen_value}
-use Rattle.iteration.specs.Rounds.{same_list, same_bound, same_option, same_value, Cell, cell_at, no_cell, risen, left_after, counted, visit, visits}
+use Rattle.iteration.specs.Rounds.{same_list, same_bound, same_option, same_value, Cell, cell_at, no_cell, risen, left_after, visit, visits}
 
 -- ---- a value is equal to itself
 
@@ -40,11 +40,6 @@ left-kept w x left e = by (same_value w x)
     by : (b : Bool) → cond b left (left - 1) ≡ 0
     by true = e
     by false = omega (arith, e)
-
-pub counted-itself : (w : Octagon) (cell : Cell) → w ≡ cell.value → counted w cell ≡ cell
-counted-itself w cell e =
-    ap (λ (z : Octagon). counted z cell) e
-    ∙ ap (λ (b : Bool). record { value = cell.value; left = cond b cell.left (cell.left - 1) }) (same_value-itself cell.value)
 
 pub untouched : (next : ℕ → List Cell → Cell) (order : List ℕ) (p : ℕ) (cells : List Cell) → (Contains order p → ⊥) → cell_at (visits next order cells) p ≡ cell_at cells p
 untouched next [] p cells absent = refl
