@@ -8,6 +8,7 @@ pub mod Answering
 pub mod Parted
 pub mod Spans
 pub mod Edges
+pub mod Outgoing
 pub mod Following
 pub mod Sound
 pub mod Either

@@ -1,19 +1,18 @@
 -- A step of a replay moves on exactly where its choice takes it there, and each step of a run has a choice.
-use Rattle.std.proofs.Common.{◌≡◌, ◌≢◌, ℕ, suc, zero, ◌+◌, ◌<◌, ◌≤◌, ◌⊎◌, inl, inr, Bool, true, false, List, [], ◌∷◌, ◌++◌, length, take, drop, get_or, Option, None, Some, ℤ, pos, negsuc, refl, sym, ap, subst, ◌∙◌, arith, length-append, length-drop}
+use Rattle.std.proofs.Common.{◌≡◌, ℕ, suc, zero, ◌+◌, ◌<◌, inl, inr, Bool, true, false, List, [], ◌∷◌, ◌++◌, length, take, drop, get_or, Option, None, Some, ℤ, pos, negsuc, refl, sym, ap, subst, ◌∙◌, arith, length-append, length-drop}
 use Rattle.std.specs.Prelude.{filter, slice_get, slice_set, nat_eq, ◌&&◌, ◌||◌, not, if◌then◌else◌, cond}
 use Rattle.std.proofs.Math.Seq.{take-append_seam}
 use Rattle.std.proofs.lemmas.List.{length-map, take-append-drop}
 use Rattle.std.proofs.lemmas.Bool.{eqb-true}
 use Rattle.std.proofs.lemmas.Bool.Decides.{nat_tests}
-use Rattle.spl_core.specs.declared.parts.Proc.{Proc}
 use Rattle.spl_core.specs.Parts.{no_proc}
 use Rattle.spl_core.specs.Expression.{Expression, State, value_of, eval}
-use Rattle.spl_core.specs.Condition.{Condition, Constant, Random, Not, And, Or, Compare, compares, May}
-use Rattle.spl_core.specs.Graph.{Move, skips, assigns, havocs, tests, calls, starts, Arc, Graph, no_arc, proc_of, arc_at, owner_of, proc_owning, arcs_out}
-use Rattle.spl_core.specs.GraphFacts.{IsGraph, ArcFits, CallMoveFits, MoveFits, ProcFitsIn}
-use Rattle.spl_runs.specs.Runs.{copied, Flow, values_of, Frame, Stack, frame, outputs_of, with_values, Step, moves, enters, leaves}
+use Rattle.spl_core.specs.Condition.{Condition, Constant, Random, Not, And, Or, Compare, May}
+use Rattle.spl_core.specs.Graph.{Move, skips, assigns, havocs, tests, calls, starts, Arc, Graph, no_arc, proc_of, arc_at, owner_of, arcs_out}
+use Rattle.spl_core.specs.GraphFacts.{IsGraph, ArcFits, ProcFitsIn}
+use Rattle.spl_runs.specs.Runs.{Flow, values_of, Frame, Stack, frame, outputs_of, with_values, Step, moves, enters, leaves}
 use Rattle.spl_runs.specs.Choices.{Choice}
-use Rattle.spl_runs.specs.Replay.{is_wide, is_wide_condition, same_bool, may, Change, now, no_change, past, changed, Outcome, moved, refused, wide, moved_to, entered, over, over_some, advanced, numbered, return_edge, if_called, if_some_called, if_pop, left, left_over, is_zero, step_by, step_of}
+use Rattle.spl_runs.specs.Replay.{is_wide, is_wide_condition, same_bool, may, Change, now, no_change, past, changed, Outcome, moved, refused, wide, moved_to, over, over_some, advanced, numbered, return_edge, if_called, if_some_called, if_pop, left_over, is_zero, step_by, step_of}
 use Rattle.spl_runs.specs.Takes.{Gives, IsEdgeOut, Takes, moves_over, calls_in, pops_back, is_wide_move, is_wide_over, is_wide_step, MovesAreTaken, TakenAreMoves, TakenAreSteps, StepsHaveChoices}
 use Rattle.spl_runs.proofs.Sound.{IsArc, ArcsAre, numbered_arc, may_sound, step_moves, step_leaves}
 use Rattle.spl_runs.proofs.Coming.{call_fits}

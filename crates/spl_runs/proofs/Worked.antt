@@ -15,6 +15,13 @@ run_examples = record {
   calls = refl;
   ends = refl;
   passes = refl;
+  over_true = refl;
+  over_false = refl;
+  not_true = refl;
+  not_false = refl;
+  no_edge = refl;
+  no_value = refl;
+  no_start = refl;
   reads = record {
     spells = record { lines = lines; last = false; well = (((refl, tt), (refl, (refl, tt))), ((refl, tt), (refl, tt))); text = refl; means = refl };
     within = ((refl, (refl, tt)), (refl, (refl, tt), tt));

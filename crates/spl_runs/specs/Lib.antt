@@ -8,6 +8,7 @@ pub mod Read
 pub mod Replay
 pub mod Takes
 pub mod Exact
+pub mod Leaving
 pub mod Stacks
 pub mod Seen
 pub mod Examples

@@ -1,5 +1,5 @@
 -- Which choice takes which step, told by cases.
-use Rattle.std.specs.Prelude.{◌≡◌, ℕ, ◌+◌, Bool, false, List, [], ◌∷◌, ◌++◌, length, slice_get, slice_set, Option, None, Some, ℤ, pos}
+use Rattle.std.specs.Prelude.{◌≡◌, ℕ, ◌+◌, Bool, false, List, [], ◌∷◌, ◌++◌, length, slice_set, Option, None, Some, ℤ, pos}
 use Rattle.spl_core.specs.Expression.{State}
 use Rattle.spl_core.specs.Graph.{Move, skips, assigns, havocs, tests, calls, starts, Arc, Graph, proc_of, arcs_out}
 use Rattle.spl_core.specs.GraphFacts.{IsGraph}

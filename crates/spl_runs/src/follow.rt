@@ -4,6 +4,7 @@ ghost use Rattle.std.specs.Prelude.{◌≡◌, ◌<◌, ◌+◌, ◌^◌, ◌-�
 ghost use Rattle.spl_core.specs.Facts.{IsCore};
 ghost use Rattle.spl_core.specs.Graph.{graph_of};
 ghost use Rattle.spl_runs.specs.Choices.{given_of};
+ghost use Rattle.spl_runs.specs.Leaving.{edges_out};
 ghost use Rattle.spl_runs.specs.Replay.{begun, replayed};
 ghost use Rattle.spl_runs.specs.Seen.{Replays, Begins, top_seen, top_held};
 ghost use Rattle.spl_runs.specs.Stacks.{frame_of, stack_of};
@@ -12,6 +13,7 @@ ghost use Rattle.spl_runs.specs.Laws.{IsRunOf};
 use crate::choices::Choices;
 use crate::frame::{Frame, StepFault};
 use crate::laws::law_replays;
+use crate::leaving::{EdgesOut, edges_out};
 use crate::stack::Stack;
 use spl_core::Core;
 use std::alloc::{AllocError, Global};
@@ -108,8 +110,9 @@ fn first(alloc: Global, core: &Core, choices: &Choices) -> Result<Option<Stack>,
 }
 
 /// The top frames of the run of a core with these choices, step by step.
-fn follow(alloc: Global, core: &Core, choices: &Choices) -> Result<Run, ReplayFault>
-    requires { length choices.now.steps.items < 2 ^ 32 - 1 }
+fn follow(alloc: Global, core: &Core, out: &EdgesOut, choices: &Choices) -> Result<Run, ReplayFault>
+    requires few { length choices.now.steps.items < 2 ^ 32 - 1 }
+    requires out { out.now ≡ edges_out core.now }
     ensures { Replays (replayed (graph_of core.now) (given_of choices.now)) result }
 {
     let mut stack = match first(alloc, core, choices) {
@@ -123,7 +126,7 @@ fn follow(alloc: Global, core: &Core, choices: &Choices) -> Result<Run, ReplayFa
         Err(_) => return Err(ReplayFault::NoMemory),
     }
     for (k, step) in choices.steps.iter().enumerate() {
-        match stack.step(alloc, core, step) {
+        match stack.step(alloc, core, out, step) {
             Ok(()) => {}
             Err(StepFault::NotARun) => return Err(ReplayFault::NotARun(k as u64 + 1)),
             Err(StepFault::Wide) => return Err(ReplayFault::Wide(k as u64 + 1)),
@@ -149,6 +152,10 @@ pub fn replay(alloc: Global, core: &Core, choices: &Choices) -> Result<Run, Repl
     law_replays();
     // for its clause, that the parts are those of a core
     let _points = core.points();
-    let run = follow(alloc, core, choices)?;
+    let out = match edges_out(alloc, core) {
+        Ok(out) => out,
+        Err(_) => return Err(ReplayFault::NoMemory),
+    };
+    let run = follow(alloc, core, &out, choices)?;
     Ok(run)
 }

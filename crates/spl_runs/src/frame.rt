@@ -1,12 +1,12 @@
 //! The frames of a run over integers of 128 bits, and one step of them.
 
-ghost use Rattle.std.specs.Prelude.{◌≡◌, ◌<◌, ◌≤◌, ◌+◌, length, IfOk, IfSome, map, slice_get, slice_set, slice_index_or, filter, nat_eq, true};
+ghost use Rattle.std.specs.Prelude.{◌≡◌, ◌<◌, ◌≤◌, ◌+◌, length, IfOk, slice_set};
 ghost use Rattle.spl_core.specs.Parts.{span_dims};
 ghost use Rattle.spl_core.specs.Graph.{pairs_in, move_of, expr_at, exprs_in, cond_at, conds_in};
-ghost use Rattle.spl_runs.specs.Replay.{numbered, changed, one_value, assigned, tested};
+ghost use Rattle.spl_runs.specs.Replay.{changed, one_value, assigned, tested};
 ghost use Rattle.spl_runs.specs.Stacks.{Changes, TakesNone};
 ghost use Rattle.spl_core.specs.Expression.{value_of};
-ghost use Rattle.spl_core.specs.Facts.{EdgeFits, IsCore};
+ghost use Rattle.spl_core.specs.Facts.{EdgeFits};
 ghost use Rattle.spl_runs.specs.Runs.{copied, values_of, with_values};
 
 use crate::value::{dimension, may, value};
@@ -28,39 +28,6 @@ pub(crate) enum StepFault {
     /// A value passes 128 bits.
     Wide,
     NoMemory,
-}
-
-/// The edge with this number among the edges out of a point, in the order of edges.
-pub(crate) fn edge_out(core: &Core, point: u32, number: usize) -> Option<Edge>
-    ensures found { result ≡ slice_get (filter (λ e. nat_eq e.source point) core.now.edges) number }
-    ensures fits { IfSome result (λ e. EdgeFits core.now e) }
-    ensures known { IsCore core.now }
-{
-    let mut left = number;
-    for e in 0..core.edge_count() {
-        let edge = core.edge_at(e);
-        if edge.source == point {
-            if left == 0 {
-                return Some(edge);
-            }
-            left -= 1;
-        }
-    }
-    None
-}
-
-/// The same for a number that may be none of an edge.
-pub(crate) fn numbered_edge(core: &Core, point: u32, number: i128) -> Option<Edge>
-    ensures found { result ≡ numbered (filter (λ e. nat_eq e.source point) core.now.edges) number }
-    ensures fits { IfSome result (λ e. EdgeFits core.now e) }
-{
-    if number < 0 {
-        return None;
-    }
-    if i128::from(core.edge_count()) <= number {
-        return None;
-    }
-    edge_out(core, point, number as usize)
 }
 
 /// Sets a dimension.

@@ -8,6 +8,7 @@ mod choices;
 mod follow;
 mod frame;
 mod laws;
+mod leaving;
 mod read;
 mod reader;
 mod stack;

@@ -6,11 +6,13 @@ ghost use Rattle.spl_core.specs.Parts.{proc_at, span_dims};
 ghost use Rattle.spl_core.specs.Facts.{EdgeFits, IsCore};
 ghost use Rattle.spl_core.specs.Graph.{move_of, arc_of, graph_of};
 ghost use Rattle.spl_runs.specs.Choices.{choice_of};
+ghost use Rattle.spl_runs.specs.Leaving.{edges_out};
 ghost use Rattle.spl_runs.specs.Replay.{if_called, entered, over, advanced, return_edge, left, if_pop, step_of};
 ghost use Rattle.spl_runs.specs.Stacks.{Moves, frame_of, frames_of, stack_of};
 
 use crate::choices::Step;
-use crate::frame::{Frame, StepFault, change, edge_out, numbered_edge, set_outputs, values_at};
+use crate::frame::{Frame, StepFault, change, set_outputs, values_at};
+use crate::leaving::EdgesOut;
 use spl_core::{Action, Core, Edge, Span};
 use std::alloc::Global;
 use std::mem;
@@ -100,22 +102,30 @@ impl Stack {
         }
     }
 
-    fn advance(&mut self, alloc: Global, core: &Core, step: &Step) -> Result<(), StepFault>
+    fn advance(
+        &mut self,
+        alloc: Global,
+        core: &Core,
+        out: &EdgesOut,
+        step: &Step,
+    ) -> Result<(), StepFault>
+        requires { out.now ≡ edges_out core.now }
         ensures { Moves (advanced (graph_of core.now) (frame_of self.old.top) (frames_of self.old.below.items) (choice_of step.now)) result (stack_of self.new) }
     {
-        match numbered_edge(core, self.top.point, step.edge) {
+        match out.numbered(core, self.top.point, step.edge) {
             Some(edge) => self.over(alloc, core, edge, &step.values),
             None => Err(StepFault::NotARun),
         }
     }
 
     /// The call edge that the frame below stands before, if the top frame stands at the exit of the procedure that it calls.
-    fn return_edge(&self, core: &Core) -> Option<Edge>
+    fn return_edge(&self, core: &Core, out: &EdgesOut) -> Option<Edge>
+        requires { out.now ≡ edges_out core.now }
         ensures edge { option_map (arc_of core.now) result ≡ return_edge (graph_of core.now) (frame_of self.now.top) (frames_of self.now.below.items) }
         ensures fits { IfSome result (λ e. EdgeFits core.now e) }
     {
         match self.below.last() {
-            Some(caller) => match edge_out(core, caller.point, 0) {
+            Some(caller) => match out.at(core, caller.point, 0) {
                 Some(edge) => if_called(core, edge, self.top.point),
                 None => None,
             },
@@ -155,12 +165,19 @@ impl Stack {
     }
 
     /// One step. After a fault nothing is said of the stack.
-    pub(crate) fn step(&mut self, alloc: Global, core: &Core, step: &Step) -> Result<(), StepFault>
+    pub(crate) fn step(
+        &mut self,
+        alloc: Global,
+        core: &Core,
+        out: &EdgesOut,
+        step: &Step,
+    ) -> Result<(), StepFault>
+        requires { out.now ≡ edges_out core.now }
         ensures { Moves (step_of (graph_of core.now) (stack_of self.old) (choice_of step.now)) result (stack_of self.new) }
     {
-        match self.return_edge(core) {
+        match self.return_edge(core, out) {
             Some(edge) => self.leave(core, edge, step),
-            None => self.advance(alloc, core, step),
+            None => self.advance(alloc, core, out, step),
         }
     }
 }

@@ -58,7 +58,7 @@ overflow_cast-depth c =
     (ap (step_of (graph_of c.args.core.now) (stack_of c.loop-k.stack)) (sym s) ∙ c.in-Ok-step.ensures) refl in
     let b : c.len.result ≡ length c.step.new.self.below.items = c.len.ensures ∙ c.step.new.self.below.ok.0 in
     let h : c.loop-k.k < length c.args.choices.now.steps.items = omega (arith, f, length-map c.args.choices.now.steps.items choice_of) in
-    let d : c.len.result + 1 < 2 ^ 32 = depth_of (length (frames_of c.step.new.self.below.items)) (length c.step.new.self.below.items) c.len.result c.loop-k.k (length c.args.choices.now.steps.items) n.depth (frames_length c.step.new.self.below.items) b h c.requires in
+    let d : c.len.result + 1 < 2 ^ 32 = depth_of (length (frames_of c.step.new.self.below.items)) (length c.step.new.self.below.items) c.len.result c.loop-k.k (length c.args.choices.now.steps.items) n.depth (frames_length c.step.new.self.below.items) b h c.requires.few in
     record { fits = omega arith }
 
 pub overflow_add-depth : goal.overflow_add-depth
@@ -69,7 +69,7 @@ overflow_add-depth c =
     (ap (step_of (graph_of c.args.core.now) (stack_of c.loop-k.stack)) (sym s) ∙ c.in-Ok-step.ensures) refl in
     let b : c.len.result ≡ length c.step.new.self.below.items = c.len.ensures ∙ c.step.new.self.below.ok.0 in
     let h : c.loop-k.k < length c.args.choices.now.steps.items = omega (arith, f, length-map c.args.choices.now.steps.items choice_of) in
-    record { fits = depth_of (length (frames_of c.step.new.self.below.items)) (length c.step.new.self.below.items) c.len.result c.loop-k.k (length c.args.choices.now.steps.items) n.depth (frames_length c.step.new.self.below.items) b h c.requires }
+    record { fits = depth_of (length (frames_of c.step.new.self.below.items)) (length c.step.new.self.below.items) c.len.result c.loop-k.k (length c.args.choices.now.steps.items) n.depth (frames_length c.step.new.self.below.items) b h c.requires.few }
 
 pub loop-k-preserved : goal.loop-k-preserved
 loop-k-preserved c =

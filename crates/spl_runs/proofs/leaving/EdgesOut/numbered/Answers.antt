@@ -2,7 +2,7 @@ use Rattle.std.proofs.Common.{pos, ◌≤ℤ◌, length, sym, arith}
 use Rattle.std.specs.Prelude.{nat_eq}
 use Rattle.std.proofs.lemmas.Int.{ints}
 use Rattle.spl_runs.proofs.Edges.{numbered_past}
-use Rattle.spl_runs.proofs.frame.numbered_edge.Goals as goal
+use Rattle.spl_runs.proofs.leaving.EdgesOut.numbered.Goals as goal
 
 pub returns-then-from-number-clause-found : goal.returns-then-from-number-clause-found
 returns-then-from-number-clause-found c =
