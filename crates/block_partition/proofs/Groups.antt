@@ -1,12 +1,12 @@
 -- The partition that labels make.
-use Rattle.std.proofs.Common.{◌≡◌, ℕ, ◌+◌, ◌*◌, ◌<◌, ◌≤◌, ◌⊎◌, inl, inr, Bool, true, false, cond, eqb, not, List, [], ◌∷◌, ◌++◌, length, length-append, append-nil, refl, sym, ap, ◌∙◌, subst, arith, zero, suc, map, ltb, ◌&&◌}
+use Rattle.std.proofs.Common.{◌≡◌, ℕ, ◌+◌, ◌<◌, ◌≤◌, ◌⊎◌, inl, inr, Bool, true, false, cond, eqb, List, [], ◌∷◌, ◌++◌, length, length-append, append-nil, refl, sym, ap, ◌∙◌, subst, arith, zero, suc, ltb}
 use Rattle.std.specs.Prelude.{◌↔◌}
-use Rattle.std.proofs.lemmas.Bool.{cases_lt, cases_eq, cases_Bool, both_ways, eqb-true, eq-eqb, ne_eqb, and_parts, and_from, lt-ltb, le-ltb, cases_order, not-true, not_from_false}
-use Rattle.std.proofs.lemmas.List.{get_or-map, length-map, same_lists, get_or_append_left, get_or_push}
-use Rattle.std.proofs.lemmas.List.Sums.{position_or_len_is, passes_at_first}
+use Rattle.std.proofs.lemmas.Bool.{cases_lt, cases_eq, both_ways, eqb-true, eq-eqb, and_parts, and_from, lt-ltb, le-ltb, not-true, not_from_false}
+use Rattle.std.proofs.lemmas.List.{get_or-map, length-map, get_or_append_left, get_or_push}
+use Rattle.std.proofs.lemmas.List.Sums.{position_or_len_is}
 use Rattle.block_partition.specs.Partition.{member, place, IsIn, block, home, SameBlock, IsBlock, IsPartition, IsOrdered}
 use Rattle.block_partition.specs.Grouping.{kept, no_label, has_label_of, is_leader, group, grouped}
-use Rattle.block_partition.proofs.Places.{member-place, in-member, place-member, before-place, home_in, home-in}
+use Rattle.block_partition.proofs.Places.{member-place, in-member, before-place, home_in}
 
 -- two variables have one label, which isn't the one of variables in no block
 pub record SameLabel (labels : List ℕ) (u w : ℕ) : Type 0 where
@@ -147,7 +147,7 @@ home-group labels v b h i =
         let there = group-home labels _ v (subst (λ vs. IsIn vs v) (block-grouped labels k hk) q) in
         let here = group-home labels _ v i in
         let same : member (leaders labels) k ≡ member (leaders labels) b =
-            sym (leader-at labels k hk).first ∙ ap (place labels) (sym there.0 ∙ here.0) ∙ (leader-at labels b h).first in
+        sym (leader-at labels k hk).first ∙ ap (place labels) (sym there.0 ∙ here.0) ∙ (leader-at labels b h).first in
         let r = (leaders-are labels).rising k b p h in
         absurd (omega arith)
 

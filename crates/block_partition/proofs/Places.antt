@@ -1,5 +1,5 @@
 -- Places of variables in blocks, and the blocks that have them.
-use Rattle.std.proofs.Common.{◌≡◌, ℕ, ◌<◌, ◌≤◌, ◌⊎◌, inl, inr, Bool, true, false, eqb, ltb, List, [], length, sym, ap, ◌∙◌, refl, arith, zero, suc}
+use Rattle.std.proofs.Common.{◌≡◌, ℕ, ◌<◌, ◌≤◌, ◌⊎◌, inl, inr, eqb, ltb, List, [], length, sym, ap, ◌∙◌, refl, arith, zero, suc}
 use Rattle.std.proofs.lemmas.Bool.{eqb-true, eq-eqb, ne_eqb, ltb-true, cases_lt, both_ways}
 use Rattle.std.proofs.lemmas.List.Sums.{passes_at_first, fails_before_first, position_or_len_is}
 use Rattle.block_partition.specs.Partition.{member, place, IsIn, block, home, IsBlock, IsPartition, IsOrdered}

@@ -1,10 +1,10 @@
 -- Labels that keep, merge, split and meet blocks make the partitions that these calls state.
-use Rattle.std.proofs.Common.{◌≡◌, ℕ, ◌+◌, ◌*◌, ◌<◌, ◌≤◌, ◌⊎◌, inl, inr, Bool, true, false, cond, eqb, ltb, List, [], ◌∷◌, ◌++◌, length, length-append, get_or, set, refl, sym, ap, ◌∙◌, subst, arith, replicate, zero, suc, Fits, w32}
+use Rattle.std.proofs.Common.{◌≡◌, ℕ, ◌+◌, ◌*◌, ◌<◌, ◌≤◌, ◌⊎◌, inl, inr, Bool, true, false, List, [], ◌∷◌, ◌++◌, length, length-append, get_or, set, refl, sym, ap, ◌∙◌, subst, arith, replicate, zero, suc, Fits, w32}
 use Rattle.std.specs.Prelude.{◌↔◌}
 use Rattle.std.proofs.lemmas.Bool.{eq-eqb, ne_eqb, lt-ltb, le-ltb, both_ways, cond-true, cond-false, cases_lt, cases_eq, cases_Bool}
 use Rattle.std.proofs.lemmas.List.{get_or_push, get_or_append_left, get_or_default, get_or-set_same, get_or-set_other, length-set}
-use Rattle.block_partition.specs.Partition.{member, block, home, place, IsIn, SameBlock, IsBlock, IsPartition, IsOrdered}
-use Rattle.block_partition.specs.Changes.{AreVariables, IsNear, IsMergedBy, leaving, label_of, IsSplitPair, IsSplitBy, IsMeetOf}
+use Rattle.block_partition.specs.Partition.{member, block, home, place, SameBlock, IsBlock, IsPartition, IsOrdered}
+use Rattle.block_partition.specs.Changes.{IsNear, IsMergedBy, leaving, label_of, IsSplitPair, IsSplitBy, IsMeetOf}
 use Rattle.block_partition.specs.Grouping.{no_label, no_block, grouped, home_word, IsHomes}
 use Rattle.block_partition.specs.Relabelling.{plain_label, key, mark, IsMarked, merged_label, part_label, split_label, meet_label, IsLabelled, IsSpan}
 use Rattle.std.specs.List.Sorted.{IsBinarySearchResult}
@@ -13,7 +13,7 @@ use Rattle.std.proofs.Common.{Result, Ok, Err}
 use Rattle.std.specs.Prelude.{MatchResult}
 use Rattle.std.proofs.lemmas.List.Sorted.{searched}
 use Rattle.block_partition.proofs.Places.{home_in, few_blocks, place-member, place-none}
-use Rattle.block_partition.proofs.Groups.{SameLabel, same_block-grouped, partition-grouped, ordered-grouped, grouped-none}
+use Rattle.block_partition.proofs.Groups.{same_block-grouped, partition-grouped, ordered-grouped, grouped-none}
 use Rattle.block_partition.proofs.Unique.{partition-unique}
 
 -- ---- words of homes
@@ -401,10 +401,11 @@ partition-more n k bs h p = record {
 }
 
 pub valid-labels : (labels : List ℕ) (bs : List (List ℕ)) (homes : List ℕ) → bs ≡ grouped labels → length labels ≤ 512 → IsHomes (grouped labels) homes → IsPartition 512 bs × IsOrdered bs × IsHomes bs homes
-valid-labels labels bs homes e h f =
-    (subst (IsPartition 512) (sym e) (partition-more (length labels) 512 (grouped labels) h (partition-grouped labels)),
-    subst IsOrdered (sym e) (ordered-grouped labels),
-    subst (λ t. IsHomes t homes) (sym e) f)
+valid-labels labels bs homes e h f = (
+  subst (IsPartition 512) (sym e) (partition-more (length labels) 512 (grouped labels) h (partition-grouped labels)),
+  subst IsOrdered (sym e) (ordered-grouped labels),
+  subst (λ t. IsHomes t homes) (sym e) f,
+)
 
 pub valid-none : (bs : List (List ℕ)) (homes : List ℕ) → bs ≡ [] → homes ≡ [] → IsPartition 512 bs × IsOrdered bs × IsHomes bs homes
 valid-none bs homes e f = valid-labels [] bs homes (e ∙ sym none) (omega arith) (record {

@@ -1,10 +1,10 @@
 -- One pass that groups variables by their labels.
-use Rattle.std.proofs.Common.{◌≡◌, ℕ, ◌+◌, ◌<◌, ◌≤◌, ◌⊎◌, inl, inr, Bool, true, false, cond, eqb, ltb, not, List, [], ◌∷◌, ◌++◌, length, length-append, append-nil, Option, Some, None, refl, sym, ap, ◌∙◌, subst, arith, zero, suc, map, max, add-one, ◌&&◌, get_or, set}
+use Rattle.std.proofs.Common.{◌≡◌, ℕ, ◌+◌, ◌<◌, ◌≤◌, ◌⊎◌, inl, inr, Bool, true, false, cond, eqb, not, List, [], ◌∷◌, ◌++◌, length, length-append, append-nil, Option, Some, None, refl, sym, ap, ◌∙◌, subst, arith, zero, suc, map, add-one, get_or, set}
 use Rattle.std.specs.Prelude.{unwrap_or}
-use Rattle.std.proofs.lemmas.Bool.{eq-eqb, ne_eqb, eqb-true, and_left, and_right, and_from, cases_lt, cases_eq, cases_order, both_ways, lt-ltb, le-ltb, cond-true, cond-false}
+use Rattle.std.proofs.lemmas.Bool.{eq-eqb, ne_eqb, and_left, and_right, and_from, cases_lt, cases_eq, cases_order, both_ways, lt-ltb, le-ltb, cond-true, cond-false}
 use Rattle.std.proofs.lemmas.List.{same_lists, get_or_append_left, get_or_push, get_or_default, get_or-map, get_or-set_same, get_or-set_other, length-set, length-map, map-set}
 use Rattle.std.proofs.lemmas.List.Sums.{position_or_len_is}
-use Rattle.block_partition.specs.Partition.{member, block, home, place, SameBlock}
+use Rattle.block_partition.specs.Partition.{member, block, home, place}
 use Rattle.block_partition.specs.Grouping.{kept, no_label, no_block, has_label_of, is_leader, group, grouped, home_word, IsHomes, IsPutIn, IsNumbered}
 use Rattle.block_partition.proofs.Places.{before-place}
 use Rattle.block_partition.proofs.Groups.{IsKept, kept-is, Leads, leads, leaders, length-grouped, block-grouped, home-group, group-has, same_block-grouped}
@@ -247,7 +247,7 @@ gathers-labelled labels v bs cs homes all old new label fresh s p g e d f number
         let last : s ≡ length bs = st ∙ f in
         let size = g.count in
         let new_one : (k : ℕ) → k < v → member labels k ≡ member labels v → ⊥ =
-            λ k q z. absurd (clash _ (sym h ∙ ap old (sym z) ∙ g.some k q (λ y. labelled (sym z ∙ y)))) in
+        λ k q z. absurd (clash _ (sym h ∙ ap old (sym z) ∙ g.some k q (λ y. labelled (sym z ∙ y)))) in
         let more : firsts labels (v + 1) ≡ firsts labels v ++ v ∷ [] = kept-yes _ v (leader-first labels v p labelled new_one) in
         let here : member (firsts labels (v + 1)) s ≡ v = ap (λ t. member t s) more ∙ get_or_push (firsts labels v) v 0 s (sym size ∙ sym last) in
         let count : length cs ≡ length bs + 1 = grind (arith, put.count) in

@@ -1,5 +1,5 @@
 -- The partition that labels make: variables with one label are a block, and those labelled `no_label` are in none.
-use Rattle.std.specs.Prelude.{◌≡◌, ℕ, zero, suc, ◌+◌, ◌<◌, ◌≤◌, ◌&&◌, max, nat_eq, nat_lt, not, Bool, false, Option, Some, None, List, [], ◌∷◌, ◌++◌, map, length, unwrap_or, if◌then◌else◌}
+use Rattle.std.specs.Prelude.{◌≡◌, ℕ, zero, suc, ◌+◌, ◌<◌, ◌≤◌, ◌&&◌, max, nat_eq, nat_lt, not, Bool, Option, Some, List, [], ◌∷◌, ◌++◌, map, length, unwrap_or, if◌then◌else◌}
 use Rattle.block_partition.specs.Partition.{member, block, home, place}
 
 -- the numbers below n that pass a test, rising

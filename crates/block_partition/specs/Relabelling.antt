@@ -1,6 +1,6 @@
 -- Labels that merge, split and meet: two variables get one label exactly where they share a block afterwards.
 use Rattle.std.specs.Prelude.{◌≡◌, ℕ, ◌+◌, ◌*◌, ◌<◌, ◌≤◌, nat_eq, nat_lt, Bool, true, false, List, length, slice_index_or, if◌then◌else◌}
-use Rattle.block_partition.specs.Partition.{member, place, block, home}
+use Rattle.block_partition.specs.Partition.{member, home}
 use Rattle.block_partition.specs.Changes.{label_of, leaving}
 use Rattle.block_partition.specs.Grouping.{no_label}
 

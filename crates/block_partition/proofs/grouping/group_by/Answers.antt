@@ -1,4 +1,4 @@
-use Rattle.std.proofs.Common.{◌≡◌, ◌<◌, ◌≤◌, length, sym, ap, ◌∙◌, arith, map, refl, rules, subst}
+use Rattle.std.proofs.Common.{◌≡◌, length, sym, ap, ◌∙◌, arith, map, refl, rules, subst}
 use Rattle.std.specs.Ordering.{nat_cmp}
 use Rattle.std.specs.BTreeMap.{get}
 use Rattle.std.proofs.lemmas.List.{length-map}
@@ -21,9 +21,9 @@ pub loop-v-preserved : goal.loop-v-preserved
 loop-v-preserved c =
     let labels = c.args.labels.now in
     elim c.if-label.branch [
-      then-label+in_ok-push w ↦ gathers-unlabelled labels c.loop-v.v _ _ _ _ _ _ c.loop-v.invariant w.if-label.true (ap (λ b. map (λ vs. vs.items) b.items) w.blocks-is) (ap (get nat_cmp) w.numbers-is) (ap (λ h. h.items) w.homes-is ∙ w.in_ok-push.ensures.items)
-    | else-label+in_ok-b+in_ok-put_in+in_ok-push-2 w ↦ gathers-labelled labels c.loop-v.v _ _ _ _ _ _ _ _ _ c.loop-v-test.true c.loop-v.invariant refl w.if-label.false (let q : w.len.result ≡ length c.loop-v.blocks.items = search rules in q ∙ sym (length-map c.loop-v.blocks.items (λ vs. vs.items))) (subst (IsNumbered (get nat_cmp c.loop-v.numbers) _ _ w.in_ok-b.b) (ap (get nat_cmp) (sym w.numbers-is)) w.in_ok-b.ensures)
-      (subst (IsPutIn (map (λ vs. vs.items) c.loop-v.blocks.items) w.in_ok-b.b c.loop-v.v) (ap (λ b. map (λ vs. vs.items) b.items) (sym w.blocks-is)) w.in_ok-put_in.ensures) (ap (λ h. h.items) w.homes-is ∙ w.in_ok-push-2.ensures.items)
+      | then-label+in_ok-push w ↦ gathers-unlabelled labels c.loop-v.v _ _ _ _ _ _ c.loop-v.invariant w.if-label.true (ap (λ b. map (λ vs. vs.items) b.items) w.blocks-is) (ap (get nat_cmp) w.numbers-is) (ap (λ h. h.items) w.homes-is ∙ w.in_ok-push.ensures.items)
+      | else-label+in_ok-b+in_ok-put_in+in_ok-push-2 w ↦ gathers-labelled labels c.loop-v.v _ _ _ _ _ _ _ _ _ c.loop-v-test.true c.loop-v.invariant refl w.if-label.false (let q : w.len.result ≡ length c.loop-v.blocks.items = search rules in q ∙ sym (length-map c.loop-v.blocks.items (λ vs. vs.items))) (subst (IsNumbered (get nat_cmp c.loop-v.numbers) _ _ w.in_ok-b.b) (ap (get nat_cmp) (sym w.numbers-is)) w.in_ok-b.ensures)
+          (subst (IsPutIn (map (λ vs. vs.items) c.loop-v.blocks.items) w.in_ok-b.b c.loop-v.v) (ap (λ b. map (λ vs. vs.items) b.items) (sym w.blocks-is)) w.in_ok-put_in.ensures) (ap (λ h. h.items) w.homes-is ∙ w.in_ok-push-2.ensures.items)
     ]
 
 pub returns-clause-blocks : goal.returns-clause-blocks

@@ -1,4 +1,4 @@
-use Rattle.std.proofs.Common.{◌≡◌, ◌<◌, arith}
+use Rattle.std.proofs.Common.{arith}
 use Rattle.block_partition.proofs.Steps.{put-in}
 use Rattle.block_partition.proofs.grouping.put_in.Goals as goal
 

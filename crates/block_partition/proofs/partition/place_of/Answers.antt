@@ -1,4 +1,3 @@
-use Rattle.std.proofs.Common.{◌≡◌, ◌<◌, ◌≤◌, ◌⊎◌, inl, inr, length, sym, ap, arith, Ok, Err, MatchResult}
 use Rattle.block_partition.proofs.Relabelled.{searched-place, searched-none}
 use Rattle.block_partition.proofs.partition.place_of.Goals as goal
 

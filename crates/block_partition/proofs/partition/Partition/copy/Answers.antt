@@ -1,4 +1,4 @@
-use Rattle.std.proofs.Common.{◌≡◌, length, sym, ap, ◌∙◌, arith, rules}
+use Rattle.std.proofs.Common.{◌≡◌, length, ap, ◌∙◌, arith, rules}
 use Rattle.block_partition.specs.Grouping.{grouped}
 use Rattle.block_partition.proofs.Relabelled.{copy-labels, labelled-all, plain-rest}
 use Rattle.block_partition.proofs.partition.Partition.copy.Goals as goal

@@ -1,5 +1,5 @@
-use Rattle.std.proofs.Common.{◌≡◌, ◌≤◌, ◌<◌, arith, subst, length, replicate, false, rules, set, true, ap, ◌∙◌}
-use Rattle.block_partition.specs.Relabelling.{IsMarked, key}
+use Rattle.std.proofs.Common.{◌≡◌, arith, subst, length, rules}
+use Rattle.block_partition.specs.Relabelling.{IsMarked}
 use Rattle.block_partition.proofs.Relabelled.{marked-none, marked-more}
 use Rattle.block_partition.proofs.partition.Partition.marks_of.Goals as goal
 

@@ -1,4 +1,4 @@
-use Rattle.std.proofs.Common.{◌≡◌, length, sym, ap, ◌∙◌, arith, rules}
+use Rattle.std.proofs.Common.{ap, ◌∙◌, arith}
 use Rattle.block_partition.specs.Grouping.{grouped}
 use Rattle.block_partition.proofs.Relabelled.{merged-labels, labelled-all, merged-rest}
 use Rattle.block_partition.proofs.partition.Partition.merged.Goals as goal

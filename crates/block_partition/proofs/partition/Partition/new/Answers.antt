@@ -1,4 +1,4 @@
-use Rattle.std.proofs.Common.{ap, map, []}
+use Rattle.std.proofs.Common.{ap, map}
 use Rattle.block_partition.proofs.Relabelled.{valid-none}
 use Rattle.block_partition.proofs.partition.Partition.new.Goals as goal
 

@@ -1,4 +1,4 @@
-use Rattle.std.proofs.Common.{◌≡◌, length, sym, ap, ◌∙◌, arith, rules}
+use Rattle.std.proofs.Common.{◌≡◌, length, ap, ◌∙◌, arith, rules}
 use Rattle.block_partition.specs.Grouping.{grouped}
 use Rattle.block_partition.proofs.Relabelled.{split-labels, labelled-all, split-rest}
 use Rattle.block_partition.proofs.partition.Partition.split.Goals as goal

@@ -1,4 +1,4 @@
-use Rattle.std.proofs.Common.{◌≡◌, ◌<◌, length, sym, ap, ◌∙◌, arith, refl}
+use Rattle.std.proofs.Common.{◌≡◌, sym, ap, ◌∙◌, arith}
 use Rattle.block_partition.specs.Partition.{place, home}
 use Rattle.block_partition.proofs.Places.{block_size}
 use Rattle.block_partition.proofs.Relabelled.{split-place, split-part, split-other, plain-some, plain-none}
