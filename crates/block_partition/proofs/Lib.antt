@@ -1,0 +1,5 @@
+pub mod Places
+pub mod Groups
+pub mod Unique
+pub mod Steps
+pub mod Relabelled

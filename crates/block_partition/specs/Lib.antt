@@ -1,0 +1,4 @@
+pub mod Partition
+pub mod Changes
+pub mod Grouping
+pub mod Relabelling

@@ -1,0 +1,288 @@
+// Partitions: blocks in order, and for each variable the number of its block.
+ghost use Rattle.std.specs.Prelude.{◌≡◌, ◌<◌, ◌≤◌, [], IfOk, OnOk, OnErr, MatchOption, length};
+ghost use Rattle.block_partition.specs.Partition.{home, block as block_at, place, IsBlock, IsPartition, IsOrdered};
+ghost use Rattle.block_partition.specs.Changes.{AreVariables, IsMergedBy, IsSplitBy, IsMeetOf};
+ghost use Rattle.block_partition.specs.Grouping.{grouped};
+ghost use Rattle.block_partition.specs.Relabelling.{key as key_of, plain_label as plain_label_of, merged_label as merged_label_of, split_label as split_label_of, meet_label as meet_label_of, IsMarked, IsSpan, IsLabelled};
+
+use crate::grouping::{Grouped, NO_BLOCK, NO_LABEL, group_by};
+use crate::relabelling::{pair_label, part_label};
+use memory::NoMemory;
+use std::alloc::Global;
+use std::marker::Model;
+
+/// Rising lists of variables below 512 that share none, in the order of their least members.
+#[derive(Drop)]
+pub struct Partition {
+    alloc: Global,
+    blocks: Vec<Vec<u32>>,
+    homes: Vec<u32>,
+}
+
+impl Model for Partition {
+    ghost use Rattle.std.specs.Prelude.{ℕ, List, map};
+    ghost use Rattle.block_partition.specs.Partition.{IsPartition, IsOrdered};
+    ghost use Rattle.block_partition.specs.Grouping.{IsHomes};
+
+    ghost Value = { List (List ℕ) };
+
+    ghost view = { λ p. map (λ vs. vs.items) p.blocks.items };
+
+    ghost invariant = { λ p. IsPartition 512 (map (λ vs. vs.items) p.blocks.items) × IsOrdered (map (λ vs. vs.items) p.blocks.items) × IsHomes (map (λ vs. vs.items) p.blocks.items) p.homes.items };
+}
+
+/// The place of a variable among the members of a block; their number where it isn't one. It takes time in proportion to
+/// the logarithm of their number.
+pub fn place_of(members: &[u32], v: u32) -> usize
+    requires block { IsBlock 512 members.now }
+    ensures { result ≡ place members.now v }
+{
+    match members.binary_search(&v) {
+        Ok(i) => i,
+        Err(_) => members.len(),
+    }
+}
+
+impl Partition {
+    /// The partition without blocks.
+    pub fn new(alloc: Global) -> Partition
+        ensures { result ≡ [] }
+    {
+        Partition {
+            alloc,
+            blocks: Vec::new(alloc),
+            homes: Vec::new(alloc),
+        }
+    }
+
+    // The partition that labels make.
+    fn from_labels(alloc: Global, labels: &[u64]) -> Result<Partition, NoMemory>
+        requires small { length labels.now ≤ 512 }
+        ensures { IfOk result (λ p. p ≡ grouped labels.now) }
+    {
+        let Grouped { blocks, homes } = group_by(alloc, labels)?;
+        Ok(Partition {
+            alloc,
+            blocks,
+            homes,
+        })
+    }
+
+    /// The number of blocks.
+    pub fn len(&self) -> u32
+        ensures count { result ≡ length self.now }
+        ensures small { result ≤ 512 }
+    {
+        self.blocks.len() as u32
+    }
+
+    /// The members of a block, rising.
+    pub fn block(&self, b: u32) -> &[u32]
+        requires { b < length self.now }
+        ensures { result.now ≡ block_at self.now b }
+    {
+        &self.blocks[b as usize]
+    }
+
+    /// The number of the block that has a variable, found at once.
+    pub fn block_of(&self, v: u32) -> Option<u32>
+        ensures { MatchOption result (length self.now ≤ home self.now v) (λ b. (b ≡ home self.now v) × (b < length self.now)) }
+    {
+        let at = v as usize;
+        if at < self.homes.len() {
+            let b = self.homes[at];
+            if b != NO_BLOCK {
+                return Some(b);
+            }
+        }
+        None
+    }
+
+    /// Law: the blocks are rising lists of variables below 512 that share none, aren't empty, and stand in the order of
+    /// their least members, which the type keeps.
+    pub fn known(&self)
+        ensures partition { IsPartition 512 self.now }
+        ensures ordered { IsOrdered self.now }
+    {
+        let _ = &self.alloc;
+    }
+
+    // The label that keeps a variable where it is.
+    fn plain_label(&self, v: u32) -> u64
+        ensures { result ≡ plain_label_of self.now v }
+    {
+        match self.block_of(v) {
+            Some(b) => pair_label(b, 0),
+            None => NO_LABEL,
+        }
+    }
+
+    /// An equal partition. It takes time as a merge does.
+    pub fn copy(&self, alloc: Global) -> Result<Partition, NoMemory>
+        ensures { IfOk result (λ p. p ≡ self.now) }
+    {
+        let mut labels = Vec::new(alloc);
+        for v in 0..self.homes.len() {
+            labels.push(self.plain_label(v as u32))?;
+        }
+        let p = Partition::from_labels(alloc, &labels)?;
+        self.known();
+        p.known();
+        Ok(p)
+    }
+
+    // The number of a variable's block, or one of its own.
+    fn key(&self, v: u32) -> usize
+        requires small { v < 512 }
+        ensures key { result ≡ key_of self.now v }
+        ensures small { result < 1024 }
+    {
+        self.known();
+        match self.block_of(v) {
+            Some(b) => b as usize,
+            None => 512 + v as usize,
+        }
+    }
+
+    // A mark at the key of each given variable.
+    fn marks_of(&self, vars: &[u32]) -> Result<Vec<bool>, NoMemory>
+        requires variables { AreVariables vars.now }
+        ensures { IfOk result (λ m. IsMarked self.now vars.now (length vars.now) m.items) }
+    {
+        let mut marks = vec![in self.alloc; false; 1024]?;
+        for i in 0..vars.len() {
+            let k = self.key(vars[i]);
+            marks[k] = true;
+        }
+        Ok(marks)
+    }
+
+    // A number above all variables of blocks and all given ones.
+    fn span(&self, vars: &[u32]) -> usize
+        requires variables { AreVariables vars.now }
+        ensures { IsSpan self.now vars.now result }
+    {
+        let mut past = self.homes.len();
+        for i in 0..vars.len() {
+            let v = vars[i] as usize;
+            if past <= v {
+                past = v + 1;
+            }
+        }
+        past
+    }
+
+    // The label of a variable after a merge of the marked blocks.
+    fn merged_label(&self, marks: &[bool], v: u32) -> u64
+        requires small { v < 512 }
+        requires size { length marks.now ≡ 1024 }
+        ensures { result ≡ merged_label_of self.now marks.now v }
+    {
+        if marks[self.key(v)] {
+            pair_label(512, 0)
+        } else {
+            self.plain_label(v)
+        }
+    }
+
+    // The partition after a merge.
+    fn merged(&self, vars: &[u32]) -> Result<Partition, NoMemory>
+        requires variables { AreVariables vars.now }
+        ensures { IfOk result (λ p. IsMergedBy self.now vars.now p) }
+    {
+        let marks = self.marks_of(vars)?;
+        let past = self.span(vars);
+        let mut labels = Vec::new(self.alloc);
+        for v in 0..past {
+            labels.push(self.merged_label(&marks, v as u32))?;
+        }
+        self.known();
+        let p = Partition::from_labels(self.alloc, &labels)?;
+        Ok(p)
+    }
+
+    /// The given variables and every block that holds one of them become one block. For n variables up to the last one that
+    /// is in a block or given it takes time in proportion to n times the logarithm of n, and to the number of given ones.
+    pub fn merge(&mut self, vars: &[u32]) -> Result<(), NoMemory>
+        requires variables { AreVariables vars.now }
+        ensures merged { OnOk result (IsMergedBy self.old vars.now self.new) }
+        ensures kept { OnErr result (self.new ≡ self.old) }
+    {
+        *self = self.merged(vars)?;
+        Ok(())
+    }
+
+    // The label of a variable after block b was split by the labels of its members.
+    fn split_label(&self, b: u32, labels: &[u32], v: u32) -> u64
+        requires block { b < length self.now }
+        requires size { length labels.now ≡ length (block_at self.now b) }
+        ensures { result ≡ split_label_of self.now b labels.now v }
+    {
+        self.known();
+        match self.block_of(v) {
+            Some(a) => {
+                if a == b {
+                    let i = place_of(self.block(b), v);
+                    part_label(b, labels[i])
+                } else {
+                    pair_label(a, 0)
+                }
+            }
+            None => NO_LABEL,
+        }
+    }
+
+    // The partition after a split.
+    fn split(&self, b: u32, labels: &[u32]) -> Result<Partition, NoMemory>
+        requires block { b < length self.now }
+        requires size { length labels.now ≡ length (block_at self.now b) }
+        ensures { IfOk result (λ p. IsSplitBy self.now b labels.now p) }
+    {
+        let mut made = Vec::new(self.alloc);
+        for v in 0..self.homes.len() {
+            made.push(self.split_label(b, labels, v as u32))?;
+        }
+        self.known();
+        let p = Partition::from_labels(self.alloc, &made)?;
+        Ok(p)
+    }
+
+    /// Members of block b with equal labels become a block; members labelled `u32::MAX` leave. It takes time as a merge
+    /// does.
+    pub fn split_by(&mut self, b: u32, labels: &[u32]) -> Result<(), NoMemory>
+        requires block { b < length self.old }
+        requires size { length labels.now ≡ length (block_at self.old b) }
+        ensures split { OnOk result (IsSplitBy self.old b labels.now self.new) }
+        ensures kept { OnErr result (self.new ≡ self.old) }
+    {
+        *self = self.split(b, labels)?;
+        Ok(())
+    }
+
+    // The label of a variable in the meet.
+    fn meet_label(&self, other: &Partition, v: u32) -> u64
+        ensures { result ≡ meet_label_of self.now other.now v }
+    {
+        match self.block_of(v) {
+            Some(a) => match other.block_of(v) {
+                Some(b) => pair_label(a, b),
+                None => NO_LABEL,
+            },
+            None => NO_LABEL,
+        }
+    }
+
+    /// The intersections of the blocks of two partitions that aren't empty. It takes time as a merge does.
+    pub fn meet_of(alloc: Global, a: &Partition, b: &Partition) -> Result<Partition, NoMemory>
+        ensures { IfOk result (λ p. IsMeetOf a.now b.now p) }
+    {
+        let mut labels = Vec::new(alloc);
+        for v in 0..a.homes.len() {
+            labels.push(a.meet_label(b, v as u32))?;
+        }
+        a.known();
+        b.known();
+        let p = Partition::from_labels(alloc, &labels)?;
+        Ok(p)
+    }
+}
