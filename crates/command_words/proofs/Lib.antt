@@ -1,0 +1,11 @@
+pub mod Shape
+pub mod Looks
+pub mod Turns
+pub mod Given
+pub mod Exact
+pub mod Values
+pub mod Reading
+pub mod Spelled
+pub mod TextWords
+pub mod Numbers
+pub mod Commands

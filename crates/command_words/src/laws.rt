@@ -1,0 +1,7 @@
+//! Laws of the definitions.
+ghost use Rattle.command_words.specs.Laws.{ReadsWhatIsSpelled};
+
+/// Which options and files words give, told as a relation, is what the function over the words gives.
+pub fn law_spelling()
+    ensures { ReadsWhatIsSpelled }
+{}

@@ -1,0 +1,14 @@
+//! What the words of a command line ask for: an analysis with its options, a bench, or a replay.
+#![tactic(auto)]
+
+mod cli;
+mod command;
+mod laws;
+mod number;
+mod texts;
+
+pub use command::{Command, WordsFault, read_words};
+pub use laws::law_spelling;
+
+#[cfg(test)]
+mod tests;
