@@ -12,5 +12,4 @@ mod text;
 
 pub use laws::{law_listing, law_plain_notes, law_points, law_reads_back, law_texts};
 pub use reading::{all_unreachable, report_text};
-pub use report::{are_unreachable, report_by_values};
 pub use text::constraints_text;

@@ -11,7 +11,6 @@ ghost use Rattle.report.specs.ReadsBack.{IsSourceOf};
 ghost use Rattle.report.specs.Solved.{IsSolvedFor};
 ghost use Rattle.report.specs.Values.{IsBuiltOf};
 
-use crate::laws::law_points;
 use crate::report::{are_unreachable, report_by_values};
 use control_points::Built;
 use domain::Domain;
@@ -69,7 +68,6 @@ pub fn all_unreachable<D: Domain>(
         → IfOk result (λ b. b ≡ all_unreachable (read_of (core_of (program_of checked.now)) delay descend) (program_of checked.now)) }
     ensures work { D.work dom.old ≤ D.work dom.new }
 {
-    law_points();
     let values = read_values(alloc, dom, solution, built.core.points())?;
     Ok(are_unreachable(dom, &built.fails, &values))
 }
