@@ -1,0 +1,16 @@
+pub mod Alike
+pub mod Calm
+pub mod Declared
+pub mod Kept
+pub mod Lines
+pub mod NamedConstraints
+pub mod Notes
+pub mod Noting
+pub mod ReadableNames
+pub mod ReadableNotes
+pub mod ReadablePieces
+pub mod ReadablePlain
+pub mod Satisfied
+pub mod Shapes
+pub mod Solutions
+pub mod Steps

@@ -1,0 +1,11 @@
+pub mod Constraint
+pub mod ConstraintText
+pub mod Listed
+pub mod Names
+pub mod Points
+pub mod Readable
+pub mod ReadsBack
+pub mod Report
+pub mod Solved
+pub mod Sound
+pub mod Values
