@@ -13,7 +13,7 @@ mod writer;
 
 pub use laws::law_examples;
 pub use notes::{NoMemory, Notes};
-pub use printing::print;
+pub use printing::{print, print_tree};
 
 #[cfg(test)]
 mod tests;

@@ -41,14 +41,14 @@ pub fn print(
 /// The same of a tree, which may break checks. A point for which there is no note has no line.
 ///
 /// The places of the points in the text that was read cost one walk over it, where the tree's offsets rise.
-pub(crate) fn print_tree(
+pub fn print_tree(
     alloc: Global,
     bytes: &[u8],
     tree: &Tree,
     notes: &Notes,
 ) -> Result<Vec<u8>, NoMemory>
-    requires { length bytes.now ≤ 2 ^ 20 }
-    ensures { IfOk result (λ text. text.items ≡ canonical bytes.now (program_of tree.now) notes.now) }
+    requires short { length bytes.now ≤ 2 ^ 20 }
+    ensures text { IfOk result (λ text. text.items ≡ canonical bytes.now (program_of tree.now) notes.now) }
 {
     let text = report(alloc, bytes, tree, notes).map_err(|_| NoMemory)?;
     Ok(text)
