@@ -1,7 +1,6 @@
 pub mod Worked
 pub mod Statements
 pub mod Passing
-pub mod Standing
 pub mod Growing
 pub mod Naming
 pub mod Keeping

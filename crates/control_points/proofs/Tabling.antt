@@ -11,7 +11,8 @@ use Rattle.spl_tree.specs.Lists.{Lists}
 use Rattle.spl_tree.specs.Facts.{IsTree}
 use Rattle.spl_tree.specs.Laws.{NumbersStandForNodes, procs_in}
 use Rattle.spl_tree.specs.Meaning.{program_of, decls_in, decls_over}
-use Rattle.control_points.specs.declared.routines.Routine.{Routine}
+use Rattle.spl_types.specs.declared.routines.Routine.{Routine}
+use Rattle.spl_types.specs.Routines.{routine_in}
 use Rattle.spl_types.specs.Checks.{Check, checks, is_among, declared_names, Procedure, main_procedure, all_decls, decl_checks, scope_of, with_point, met_before, point_check, block_checks, procedure_checks, proc_checks, points_after}
 use Rattle.spl_types.specs.Dimensions.{targets_in, input_name, copied, dimensions_of, procedures, dimensions}
 use Rattle.spl_types.specs.Accepted.{KeepsRules}
@@ -19,7 +20,7 @@ use Rattle.spl_types.specs.Faults.{Kept}
 use Rattle.spl_types.specs.Tables.{Distinct, proc_names}
 use Rattle.spl_types.proofs.Firsts.{kept_first}
 use Rattle.control_points.specs.CoreOf.{Spoken, spoken_by, points_by}
-use Rattle.control_points.specs.Routines.{procedure_at, IsOf}
+use Rattle.control_points.specs.Routines.{procedure_at}
 use Rattle.control_points.proofs.Adding.{is_new}
 use Rattle.control_points.proofs.Fresh.{decls_fresh, procs_fresh, fresh_distinct}
 use Rattle.control_points.proofs.Framing.{either, dims_count, declared_split}
@@ -158,7 +159,7 @@ pub record Tabled (p : Program) (k : ℕ) (names ds : List (List ℕ)) : Type 0 
   pub few_copies : length (copied (procedure_at p k)) ≤ 128
   pub differ : Distinct (copied (procedure_at p k))
 
-pub tabled : (t : Lists) (p : Program) (k : ℕ) (names : List (List ℕ)) (r : Routine) (a b c d : List (List ℕ)) → KeepsRules p → k ≤ length p.procs → names ≡ dimensions p k → IsOf t (procedure_at p k) r → a ≡ []
+pub tabled : (t : Lists) (p : Program) (k : ℕ) (names : List (List ℕ)) (r : Routine) (a b c d : List (List ℕ)) → KeepsRules p → k ≤ length p.procs → names ≡ dimensions p k → routine_in t r ≡ procedure_at p k → a ≡ []
     → (let xs = declared_names (decls_over (decls_in t) r.inputs) in Distinct (a ++ xs) → b ≡ a ++ xs)
     → (let xs = declared_names (decls_over (decls_in t) r.outputs) in Distinct (b ++ xs) → c ≡ b ++ xs)
     → (let xs = declared_names (decls_over (decls_in t) r.locals) in Distinct (c ++ xs) → d ≡ c ++ xs)
@@ -169,7 +170,7 @@ tabled t p k names r a b c d h le e w none f g v =
     let A : List Declared → Type 0 = λ l. Distinct (a ++ declared_names l) → b ≡ a ++ declared_names l in
     let B : List Declared → Type 0 = λ l. Distinct (b ++ declared_names l) → c ≡ b ++ declared_names l in
     let C : List Declared → Type 0 = λ l. Distinct (c ++ declared_names l) → d ≡ c ++ declared_names l in
-    let is : d ≡ declared_names (all_decls u) = declared_so u a b c d none (subst A w.inputs f) (subst B w.outputs g) (subst C w.locals v) (decls_differ p k h le) in
+    let is : d ≡ declared_names (all_decls u) = declared_so u a b c d none (subst A (ap (λ (x : Procedure). x.inputs) w) f) (subst B (ap (λ (x : Procedure). x.outputs) w) g) (subst C (ap (λ (x : Procedure). x.locals) w) v) (decls_differ p k h le) in
     let n : length names ≡ length (dimensions_of u) = ap length e in
     let few = h.dims k le in
     let count = dims_count u in
@@ -191,7 +192,7 @@ copies_so xs ys t c e f d h =
     h (subst P (sym s) d) ∙ s
 
 -- those of the procedure with a number of a tree
-pub tabled_of : (t l : Lists) (k : ℕ) (names : List (List ℕ)) (r : Routine) (a b c d : List (List ℕ)) → NumbersStandForNodes → IsTree l → t ≡ l → KeepsRules (program_of l) → k ≤ length l.procs → names ≡ dimensions (program_of l) k → IsOf t (procedure_at (program_of t) k) r → a ≡ []
+pub tabled_of : (t l : Lists) (k : ℕ) (names : List (List ℕ)) (r : Routine) (a b c d : List (List ℕ)) → NumbersStandForNodes → IsTree l → t ≡ l → KeepsRules (program_of l) → k ≤ length l.procs → names ≡ dimensions (program_of l) k → routine_in t r ≡ procedure_at (program_of t) k → a ≡ []
     → (let xs = declared_names (decls_over (decls_in t) r.inputs) in Distinct (a ++ xs) → b ≡ a ++ xs)
     → (let xs = declared_names (decls_over (decls_in t) r.outputs) in Distinct (b ++ xs) → c ≡ b ++ xs)
     → (let xs = declared_names (decls_over (decls_in t) r.locals) in Distinct (c ++ xs) → d ≡ c ++ xs)
@@ -199,5 +200,5 @@ pub tabled_of : (t l : Lists) (k : ℕ) (names : List (List ℕ)) (r : Routine) 
 unfolding program_of
 tabled_of t l k names r a b c d law i e h le n w none f g v =
     let count : length (procs_in l) ≡ length l.procs = (law l i).0.procs in
-    let P : Lists → Type 0 = λ x. IsOf t (procedure_at (program_of x) k) r in
+    let P : Lists → Type 0 = λ x. routine_in t r ≡ procedure_at (program_of x) k in
     tabled t (program_of l) k names r a b c d h (omega (arith, le, count)) n (subst P e w) none f g v

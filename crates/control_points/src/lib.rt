@@ -9,11 +9,9 @@ mod edges;
 mod laws;
 mod making;
 mod names;
-mod nodes;
 mod nodes_made;
 mod offsets;
 mod programs;
-mod routines;
 
 pub use built::{Built, Fail};
 pub use laws::{law_examples, law_graphs, law_names, law_places, law_shape};

@@ -12,12 +12,11 @@ use crate::builder::Builder;
 use crate::built::Built;
 use crate::edges::{Scope, emit_block};
 use crate::making::Source;
-use crate::names::{Dimensions, NameTable};
-use crate::nodes::decl_count;
-use crate::routines::routine_at;
+use crate::names::{Dimensions, procedure_names};
 use spl_core::{Action, Proc};
 use spl_tree::law_numbers;
-use spl_types::{Checked, Names, NoMemory};
+use spl_types::nodes::decl_count;
+use spl_types::{Checked, NameTable, Names, NoMemory, routine_at};
 use std::alloc::Global;
 
 /// Adds the edge from an entry, of a procedure whose dimensions have these names, and meets the entry.
@@ -105,7 +104,7 @@ pub fn core_of(alloc: Global, checked: &Checked) -> Result<Built, NoMemory>
 {
     law_numbers();
     let tree = checked.tree();
-    let names = NameTable::of_procs(alloc, tree)?;
+    let names = procedure_names(alloc, tree)?;
     let mut builder = Builder::new(alloc)?;
     let mut procs = Vec::new(alloc);
     let mut owners = Vec::new(alloc);

@@ -5,3 +5,4 @@ pub mod Programs
 pub mod Waiting
 pub mod Worked
 pub mod Written
+mod Bare

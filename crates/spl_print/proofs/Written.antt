@@ -42,10 +42,7 @@ wrote-append bytes points xs ys out0 out1 out2 n0 n1 n2 a b = record {
       ∙ ap (λ k. drop k (drop n0 points)) (sym (point_lines-append xs ys));
 }
 
--- no line, and one line of words
-pub wrote-none : (bytes : List ℕ) (points : List (List ℕ)) (out : List ℕ) (n : ℕ) → Wrote bytes points [] out n out n
-wrote-none bytes points out n = record { text = sym (append-nil out); left = refl }
-
+-- one line of words
 pub wrote-words : (bytes : List ℕ) (points : List (List ℕ)) (indent : ℕ) (text out out' : List ℕ) (n : ℕ) → out' ≡ out ++ indented indent text → Wrote bytes points (words indent text ∷ []) out n out' n
 wrote-words bytes points indent text out out' n e = record { text = e ∙ ap (λ t. out ++ t) (sym (append-nil (indented indent text))); left = refl }
 

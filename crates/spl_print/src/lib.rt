@@ -12,8 +12,9 @@ mod text;
 mod writer;
 
 pub use laws::law_examples;
-pub use notes::{NoMemory, Notes};
-pub use printing::print;
+pub use notes::Notes;
+pub use printing::{print, print_tree};
+pub use spl_types::NoMemory;
 
 #[cfg(test)]
 mod tests;

@@ -1,12 +1,9 @@
 //! What is noted of a program: a text for each printed point, and the texts of the lines after the program.
 ghost use Rattle.std.specs.Prelude.{◌≡◌, ◌<◌, ◌++◌, ◌∷◌, [], length, slice_index_or, OnOk, OnErr};
 
+use spl_types::NoMemory;
 use std::alloc::Global;
 use std::marker::Model;
-
-/// Memory was wanting.
-#[derive(Clone, Copy, Debug, Drop, PartialEq, Eq)]
-pub struct NoMemory;
 
 /// A text for each printed point, in the order of their lines, and the closing texts: those of the lines after the
 /// program. The texts are any bytes; each stands in the comment of its line.
@@ -45,8 +42,8 @@ impl Notes {
         ensures closing { self.new.closing ≡ self.old.closing }
         ensures kept { OnErr result (self.new ≡ self.old) }
     {
-        let copy = Vec::from_slice(self.alloc, text).map_err(|_| NoMemory)?;
-        self.points.push(copy).map_err(|_| NoMemory)?;
+        let copy = Vec::from_slice(self.alloc, text)?;
+        self.points.push(copy)?;
         Ok(())
     }
 
@@ -56,8 +53,8 @@ impl Notes {
         ensures points { self.new.points ≡ self.old.points }
         ensures kept { OnErr result (self.new ≡ self.old) }
     {
-        let copy = Vec::from_slice(self.alloc, text).map_err(|_| NoMemory)?;
-        self.closing.push(copy).map_err(|_| NoMemory)?;
+        let copy = Vec::from_slice(self.alloc, text)?;
+        self.closing.push(copy)?;
         Ok(())
     }
 

@@ -12,11 +12,11 @@ ghost use Rattle.spl_print.specs.Writing.{Appends, block_in};
 use crate::blocks::put_block;
 use crate::laws::law_tree;
 use crate::lines::{put_heading, put_line, put_locals};
-use crate::notes::{NoMemory, Notes};
+use crate::notes::Notes;
 use crate::place_cursor::PlaceCursor;
 use crate::writer::{Source, Writer};
 use spl_tree::{Block, DeclList, Tree};
-use spl_types::Checked;
+use spl_types::{Checked, NoMemory};
 use std::alloc::{AllocError, Global};
 
 /// The length of the word `begin`, just past which the first point of a body is.
@@ -41,16 +41,16 @@ pub fn print(
 /// The same of a tree, which may break checks. A point for which there is no note has no line.
 ///
 /// The places of the points in the text that was read cost one walk over it, where the tree's offsets rise.
-pub(crate) fn print_tree(
+pub fn print_tree(
     alloc: Global,
     bytes: &[u8],
     tree: &Tree,
     notes: &Notes,
 ) -> Result<Vec<u8>, NoMemory>
-    requires { length bytes.now ≤ 2 ^ 20 }
-    ensures { IfOk result (λ text. text.items ≡ canonical bytes.now (program_of tree.now) notes.now) }
+    requires short { length bytes.now ≤ 2 ^ 20 }
+    ensures text { IfOk result (λ text. text.items ≡ canonical bytes.now (program_of tree.now) notes.now) }
 {
-    let text = report(alloc, bytes, tree, notes).map_err(|_| NoMemory)?;
+    let text = report(alloc, bytes, tree, notes)?;
     Ok(text)
 }
 

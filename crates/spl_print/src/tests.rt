@@ -1,184 +1,68 @@
-//! Programs whose canonical texts were worked out by hand.
+//! The cursor, and the report on a program that was made by hand.
 
-use crate::notes::{NoMemory, Notes};
+ghost use Rattle.std.specs.Prelude.{◌≡◌, []};
+ghost use Rattle.spl_tree.specs.Program.{empty};
+ghost use Rattle.spl_tree.specs.Meaning.{program_of};
+
+use crate::notes::Notes;
 use crate::place_cursor::PlaceCursor;
-use crate::printing::print_tree;
-use spl_parser::{ParseFault, parse};
-use spl_text::{Place, TextFault, tokens};
+use crate::printing::print;
+use spl_text::Place;
+use spl_tree::{Block, DeclList, MainTree, Tree, TreeParts};
+use spl_types::check;
 use std::alloc::{AllocError, Global};
-use std::process::Abort;
 use std::test::Fail;
 
-/// What is noted of the points of a program, one letter each.
-const LETTERS: &[u8] = b"abcdefghijklmnopqrstuvwxyz";
-
-/// Programs and their canonical texts, before the closing lines.
-const PROGRAMS: [(&str, &str); 8] = [
-    ("begin end", "begin\n  /* (L1 C6) a */\nend\n"),
-    (
-        "var x : int , y:real,z : other ;\nbegin x=007; end",
-        "var x:int, y:real, z:other;\nbegin\n  /* (L2 C6) a */\n  x = 7;\n  /* (L2 C13) b */\nend\n",
-    ),
-    (
-        "proc f(a:int,b:int)returns(r:int)var t:int,u:int;begin r=a;end\nproc g()returns()begin end\nbegin end",
-        "proc f(a:int, b:int) returns (r:int)\nvar t:int, u:int;\nbegin\n  /* (L1 C55) a */\n  r = a;\n  /* (L1 C60) b */\nend\nproc g() returns ()\nbegin\n  /* (L2 C23) c */\nend\nbegin\n  /* (L3 C6) d */\nend\n",
-    ),
-    (
-        "begin skip;halt;fail;\nassume true;x=false;\ny=random;z=brandom;end",
-        "begin\n  /* (L1 C6) a */\n  skip;\n  /* (L1 C12) b */\n  halt;\n  /* (L1 C17) c */\n  fail;\n  /* (L1 C22) d */\n  assume true;\n  /* (L2 C13) e */\n  x = false;\n  /* (L2 C21) f */\n  y = random;\n  /* (L3 C10) g */\n  z = random;\n  /* (L3 C20) h */\nend\n",
-    ),
-    (
-        "begin x=P(a,b);( x )=P(a);(x,y)=P();()=P(a,b,c);end",
-        "begin\n  /* (L1 C6) a */\n  x = P(a, b);\n  /* (L1 C16) b */\n  x = P(a);\n  /* (L1 C27) c */\n  (x, y) = P();\n  /* (L1 C37) d */\n  () = P(a, b, c);\n  /* (L1 C49) e */\nend\n",
-    ),
-    (
-        "begin\nif a<b then skip; else while not c do done endif\nif a then else endif;\nend",
-        "begin\n  /* (L1 C6) a */\n  if a < b then\n    /* (L2 C12) b */\n    skip;\n    /* (L2 C18) c */\n  else\n    /* (L2 C23) d */\n    while not c do\n      /* (L2 C38) e */\n    done;\n    /* (L2 C43) f */\n  endif;\n  /* (L2 C49) g */\n  if a then\n    /* (L3 C10) h */\n  else\n    /* (L3 C15) i */\n  endif;\n  /* (L3 C22) j */\nend\n",
-    ),
-    (
-        "begin while true do if b then x=1; endif done;end",
-        "begin\n  /* (L1 C6) a */\n  while true do\n    /* (L1 C20) b */\n    if b then\n      /* (L1 C30) c */\n      x = 1;\n      /* (L1 C35) d */\n    endif;\n    /* (L1 C41) e */\n  done;\n  /* (L1 C47) f */\nend\n",
-    ),
-    (
-        "begin if a then endif // still open\n ; end",
-        "begin\n  /* (L1 C6) a */\n  if a then\n    /* (L1 C16) b */\n  endif;\n  /* (L2 C3) c */\nend\n",
-    ),
-];
-
-/// Expressions and their canonical texts.
-const EXPRESSIONS: [(&str, &str); 56] = [
-    ("a", "a"),
-    ("(((a)))", "a"),
-    ("0", "0"),
-    ("0001", "1"),
-    ("2305843009213693952", "2305843009213693952"),
-    ("true", "true"),
-    ("false", "false"),
-    ("random", "random"),
-    ("brandom", "random"),
-    ("a-b-c", "a - b - c"),
-    ("(a-b)-c", "a - b - c"),
-    ("a-(b-c)", "a - (b - c)"),
-    ("a+(b-c)", "a + (b - c)"),
-    ("a+b*c", "a + b * c"),
-    ("(a+b)*c", "(a + b) * c"),
-    ("a*(b+c)", "a * (b + c)"),
-    ("a*b/c%d", "a * b / c % d"),
-    ("a*(b*c)", "a * (b * c)"),
-    ("a/(b%c)", "a / (b % c)"),
-    ("-a", "-a"),
-    ("- -a", "--a"),
-    ("-(-a)", "--a"),
-    ("-(a+b)", "-(a + b)"),
-    ("-(a*b)", "-(a * b)"),
-    ("-a*b", "-a * b"),
-    ("a*-b", "a * -b"),
-    ("a--b", "a - -b"),
-    ("-random", "-random"),
-    ("-(not a)", "-(not a)"),
-    ("(not a)+b", "(not a) + b"),
-    ("a*(not b)", "a * (not b)"),
-    ("a==b", "a == b"),
-    ("a!=b", "a != b"),
-    ("a<b", "a < b"),
-    ("a<=b", "a <= b"),
-    ("a>b", "a > b"),
-    ("a>=b", "a >= b"),
-    ("a==(b==c)", "a == (b == c)"),
-    ("(a<b)<c", "(a < b) < c"),
-    ("(a==b)+1", "(a == b) + 1"),
-    ("a+1==b-1", "a + 1 == b - 1"),
-    ("(not a)==b", "(not a) == b"),
-    ("not a==b", "not a == b"),
-    ("not a", "not a"),
-    ("not not a", "not not a"),
-    ("not(a and b)", "not (a and b)"),
-    ("not a and b", "not a and b"),
-    ("not(a or b)", "not (a or b)"),
-    ("a and not b", "a and not b"),
-    ("a and b and c", "a and b and c"),
-    ("a and(b and c)", "a and (b and c)"),
-    ("a or b or c", "a or b or c"),
-    ("a or(b or c)", "a or (b or c)"),
-    ("a or b and c", "a or b and c"),
-    ("(a or b)and c", "(a or b) and c"),
-    ("(a and b)or not c<d", "a and b or not c < d"),
-];
-
-/// The letters for points, and two closing texts.
-fn lettered(alloc: Global) -> Result<Notes, NoMemory> {
-    let mut notes = Notes::new(alloc);
-    for letter in LETTERS {
-        notes.point(&[*letter])?;
-    }
-    notes.closing(b"fail (L1 C7): unreachable")?;
-    notes.closing(b"rounds: 2")?;
-    Ok(notes)
-}
-
-/// The canonical text of a program, or nothing where it is none.
-fn canonical_text(alloc: Global, text: &[u8], notes: &Notes) -> Result<Vec<u8>, NoMemory> {
-    if text.len() > 1 << 20 {
-        return Ok(Vec::new(alloc));
-    }
-    match tokens(alloc, text) {
-        Ok(list) => match parse(alloc, text, &list) {
-            Ok(tree) => print_tree(alloc, text, &tree, notes),
-            Err(ParseFault::NoMemory) => Err(NoMemory),
-            Err(ParseFault::Syntax(_)) => Ok(Vec::new(alloc)),
+/// The tree of `begin end`.
+fn bare_tree(alloc: Global) -> Tree
+    ensures { program_of result ≡ record { procs = []; locals = []; begin = 0; body = empty } }
+{
+    Tree::from_parts(TreeParts {
+        letters: Vec::new(alloc),
+        names: Vec::new(alloc),
+        decls: Vec::new(alloc),
+        decl_places: Vec::new(alloc),
+        procs: Vec::new(alloc),
+        proc_places: Vec::new(alloc),
+        exprs: Vec::new(alloc),
+        expr_places: Vec::new(alloc),
+        stmts: Vec::new(alloc),
+        stmt_places: Vec::new(alloc),
+        name_items: Vec::new(alloc),
+        name_item_places: Vec::new(alloc),
+        stmt_items: Vec::new(alloc),
+        main: MainTree {
+            locals: DeclList { first: 0, count: 0 },
+            body: Block { first: 0, count: 0 },
         },
-        Err(TextFault::NoMemory) => Err(NoMemory),
-        Err(TextFault::Broken(..)) => Ok(Vec::new(alloc)),
-    }
+        main_begin: 0,
+    })
 }
 
-/// Ends the test where the canonical text of a program isn't this one with the closing lines.
-fn expect_text(rt: &impl Abort, alloc: Global, text: &[u8], want: &str) -> Result<(), AllocError> {
-    let Ok(notes) = lettered(alloc) else {
+/// The report on `begin end`.
+fn report(alloc: Global) -> Result<Vec<u8>, AllocError> {
+    let tree = bare_tree(alloc);
+    let mut notes = Notes::new(alloc);
+    let Ok(()) = notes.point(b"top") else {
         return Err(AllocError);
     };
-    let Ok(given) = canonical_text(alloc, text, &notes) else {
+    let Ok(()) = notes.closing(b"rounds: 2") else {
         return Err(AllocError);
     };
-    let whole = format!(in alloc; "{want}/* fail (L1 C7): unreachable */\n/* rounds: 2 */\n")?;
-    assert_eq!(rt; given.as_slice(), whole.as_bytes());
-    Ok(())
+    let Ok(checked) = check(alloc, &tree) else {
+        return Err(AllocError);
+    };
+    match print(alloc, b"begin end", &checked, &notes) {
+        Ok(text) => Ok(text),
+        Err(_) => Err(AllocError),
+    }
 }
 
 #[test]
-fn programs(rt: HostRuntime) -> Result<(), Fail> {
-    for (text, want) in PROGRAMS {
-        expect_text(&rt, rt.alloc(), text.as_bytes(), want)?;
-    }
-    Ok(())
-}
-
-#[test]
-fn expressions(rt: HostRuntime) -> Result<(), Fail> {
-    for (text, printed) in EXPRESSIONS {
-        let source = format!(in rt.alloc(); "begin assume {text};end")?;
-        let want = format!(in rt.alloc();
-            "begin\n  /* (L1 C6) a */\n  assume {printed};\n  /* (L1 C{}) b */\nend\n",
-            source.len() - 2
-        )?;
-        expect_text(&rt, rt.alloc(), source.as_bytes(), want.as_str())?;
-    }
-    Ok(())
-}
-
-#[test]
-fn long_chains(rt: HostRuntime) -> Result<(), Fail> {
-    for (piece, column) in [("not ", "4011"), ("-", "1011")] {
-        let mut chain = String::new(rt.alloc());
-        for _ in 0..1000 {
-            chain.push_str(piece)?;
-        }
-        let source = format!(in rt.alloc(); "begin x={chain}y;end")?;
-        let want = format!(in rt.alloc();
-            "begin\n  /* (L1 C6) a */\n  x = {chain}y;\n  /* (L1 C{column}) b */\nend\n"
-        )?;
-        expect_text(&rt, rt.alloc(), source.as_bytes(), want.as_str())?;
-    }
+fn prints(rt: HostRuntime) -> Result<(), Fail> {
+    let text = report(rt.alloc())?;
+    let want = "begin\n  /* (L1 C6) top */\nend\n/* rounds: 2 */\n";
+    assert_eq!(&rt; text.as_slice(), want.as_bytes());
     Ok(())
 }
 

@@ -8,3 +8,5 @@ mod checks;
 mod cores;
 #[cfg(test)]
 mod graphs;
+#[cfg(test)]
+mod prints;
