@@ -6,6 +6,9 @@
 #![tactic(auto)]
 
 mod assembly;
+mod same;
+#[cfg(test)]
+mod tests;
 mod value;
 
 pub use memory::NoMemory;

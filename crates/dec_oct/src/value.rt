@@ -1,5 +1,5 @@
 // Decomposed values, and what can be read of them.
-ghost use Rattle.std.specs.Prelude.{◌≡◌, ℕ, ◌*◌, ◌<◌, ◌≤◌, IfOk, IfSome, IsSome, MatchOption, length, Some, None, true};
+ghost use Rattle.std.specs.Prelude.{◌≡◌, ℕ, ◌*◌, ◌<◌, ◌≤◌, IfOk, IfSome, IsSome, MatchOption, length, Some, None, true, false};
 ghost use Rattle.oct_def.specs.Bound.{bound_of};
 ghost use Rattle.oct_def.specs.Table.{at};
 ghost use Rattle.oct_def.specs.Octagon.{top_value, bottom_value};
@@ -9,6 +9,7 @@ ghost use Rattle.block_laws.specs.Assembly.{matrix};
 ghost use Rattle.dec_oct.specs.Value.{blocks_of, decomposed, octagon, whole, marked, IsKept, IsDecomposition};
 
 use crate::assembly::entry_of;
+use crate::same::same_blocks;
 use block_partition::Partition;
 use half_matrix::HalfMatrix;
 use memory::NoMemory;
@@ -205,6 +206,23 @@ impl DecOct {
         match &self.held {
             None => unreachable!(),
             Some(h) => entry_of(&h.partition, &h.matrices, i, j),
+        }
+    }
+
+    /// Whether two values are equal. Each word of their matrices is compared once, up to the first that differs.
+    pub fn same(&self, other: &DecOct) -> bool
+        requires { self.now.dims ≡ other.now.dims }
+        ensures yes { result ≡ true → octagon self.now ≡ octagon other.now }
+        ensures no { result ≡ false → octagon self.now ≡ octagon other.now → ⊥ }
+    {
+        self.known();
+        other.known();
+        match &self.held {
+            None => other.held.is_none(),
+            Some(h) => match &other.held {
+                None => false,
+                Some(k) => same_blocks(&h.partition, &h.matrices, &k.partition, &k.matrices),
+            },
         }
     }
 }
