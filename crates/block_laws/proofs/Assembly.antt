@@ -7,7 +7,7 @@ use Rattle.std.specs.Prelude.{pos}
 use Rattle.oct_def.specs.Table.{Matrix, table, at}
 use Rattle.oct_def.specs.Matrix.{IsSquare}
 use Rattle.oct_def.specs.Octagon.{top_entry}
-use Rattle.oct_def.proofs.Tables.{length-table, at-table, square-table, table-same, table-at, is-table}
+use Rattle.oct_def.proofs.Tables.{length-table, at-table, table-same, table-at, is-table}
 use Rattle.block_partition.specs.Partition.{member, place, IsIn, block, home, IsBlock, IsPartition}
 use Rattle.block_laws.specs.Assembly.{outer, inner, restrict_entry, restrict, matrix, is_joint, block_entry, assembly_entry, assembly, IsParts, IsCutOff, IsSeparated, part, parts}
 use Rattle.block_partition.proofs.Places.{member-place, in-member, home_in, home-in}
@@ -44,10 +44,6 @@ top_entry-on i = ap (λ (b : Bool). cond b (Some (pos 0)) None) (eq-eqb i i refl
 pub length-assembly : (n : ℕ) (bs : List (List ℕ)) (ms : List Matrix) → length (assembly n bs ms) ≡ 2 * n
 unfolding assembly
 length-assembly n bs ms = length-table (2 * n) (assembly_entry bs ms)
-
-pub square-assembly : (n : ℕ) (bs : List (List ℕ)) (ms : List Matrix) → IsSquare (assembly n bs ms)
-unfolding assembly
-square-assembly n bs ms = square-table (2 * n) (assembly_entry bs ms)
 
 pub at-assembly : (n : ℕ) (bs : List (List ℕ)) (ms : List Matrix) (i j : ℕ) → i < 2 * n → j < 2 * n → at (assembly n bs ms) i j ≡ assembly_entry bs ms i j
 unfolding assembly

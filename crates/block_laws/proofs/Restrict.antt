@@ -4,9 +4,9 @@ use Rattle.std.proofs.lemmas.Bool.{cases_lt, cases_eq}
 use Rattle.std.proofs.lemmas.Bool.Decides.{Decides-eqb, same_from_decides}
 use Rattle.oct_def.specs.Bound.{Bound, plus, clamped, evened, is_negative}
 use Rattle.oct_def.specs.Table.{Matrix, table, at}
-use Rattle.oct_def.specs.Matrix.{opposite, IsSquare}
+use Rattle.oct_def.specs.Matrix.{opposite}
 use Rattle.oct_def.specs.Tight.{path, long_path, least_of_five, pivot_entry, pair_entry, pair_step, pair_steps, closure, negative_cycle, has_negative_cycle, even_entry, evening, crossing, has_crossing, strong_entry, strengthening}
-use Rattle.oct_def.proofs.Tables.{length-table, at-table, square-table, table-same}
+use Rattle.oct_def.proofs.Tables.{length-table, at-table, table-same}
 use Rattle.oct_def.proofs.Orders.{plus_none, least_none}
 use Rattle.oct_def.proofs.Indices.{opposite_below, some_index-none, some_index-each}
 use Rattle.oct_def.proofs.Sound.{length-pair_steps}
@@ -18,10 +18,6 @@ use Rattle.block_laws.proofs.Places.{outer-even, outer-odd, outer-opposite, oute
 pub length-restrict : (vs : List ℕ) (m : Matrix) → length (restrict vs m) ≡ 2 * length vs
 unfolding restrict
 length-restrict vs m = length-table (2 * length vs) (restrict_entry vs m)
-
-pub square-restrict : (vs : List ℕ) (m : Matrix) → IsSquare (restrict vs m)
-unfolding restrict
-square-restrict vs m = square-table (2 * length vs) (restrict_entry vs m)
 
 pub at-restrict : (vs : List ℕ) (m : Matrix) (i j : ℕ) → i < 2 * length vs → j < 2 * length vs → at (restrict vs m) i j ≡ at m (outer vs i) (outer vs j)
 unfolding restrict restrict_entry
