@@ -1,8 +1,8 @@
 -- Labels that keep, merge, split and meet blocks make the partitions that these calls state.
-use Rattle.std.proofs.Common.{◌≡◌, ℕ, ◌+◌, ◌*◌, ◌<◌, ◌≤◌, ◌⊎◌, inl, inr, Bool, true, false, List, [], ◌∷◌, ◌++◌, length, length-append, get_or, set, refl, sym, ap, ◌∙◌, subst, arith, replicate, zero, suc, Fits, w32}
+use Rattle.std.proofs.Common.{◌≡◌, ℕ, ◌+◌, ◌*◌, ◌<◌, ◌≤◌, ◌⊎◌, inl, inr, Bool, true, false, List, [], length, get_or, set, refl, sym, ap, ◌∙◌, subst, arith, replicate, zero, suc, Fits, w32}
 use Rattle.std.specs.Prelude.{◌↔◌}
 use Rattle.std.proofs.lemmas.Bool.{eq-eqb, ne_eqb, lt-ltb, le-ltb, both_ways, cond-true, cond-false, cases_lt, cases_eq, cases_Bool}
-use Rattle.std.proofs.lemmas.List.{get_or_push, get_or_append_left, get_or_default, get_or-set_same, get_or-set_other, length-set}
+use Rattle.std.proofs.lemmas.List.{get_or_default, get_or-set_same, get_or-set_other, length-set}
 use Rattle.block_partition.specs.Partition.{member, block, home, place, SameBlock, IsBlock, IsPartition, IsOrdered}
 use Rattle.block_partition.specs.Changes.{IsNear, IsMergedBy, leaving, label_of, IsSplitPair, IsSplitBy, IsMeetOf}
 use Rattle.block_partition.specs.Grouping.{no_label, no_block, grouped, home_word, IsHomes}
@@ -45,14 +45,6 @@ labelled-all f labels v n h e few rest = record {
   own = λ k p. h.1 k (omega (arith, h.0));
   rest = λ k p. rest k (omega (arith, h.0));
 }
-
-pub labelled-more : (f : ℕ → ℕ) (xs ys : List ℕ) (n x : ℕ) → (length xs ≡ n) × ((k : ℕ) → k < n → member xs k ≡ f k) → ys ≡ xs ++ x ∷ [] → x ≡ f n → (length ys ≡ n + 1) × ((k : ℕ) → k < n + 1 → member ys k ≡ f k)
-labelled-more f xs ys n x h e g =
-    (ap length e ∙ length-append xs (x ∷ []) ∙ omega (arith, h.0), λ k p. ap (λ zs. member zs k) e ∙ by k p (cases_eq k n))
-  where
-    by : (k : ℕ) → k < n + 1 → (k ≡ n) ⊎ (k ≡ n → ⊥) → member (xs ++ x ∷ []) k ≡ f k
-    by k p (inl q) = get_or_push xs x 0 k (h.0 ∙ sym q) ∙ g ∙ ap f (sym q)
-    by k p (inr q) = let r : k < n = grind (arith, q) in get_or_append_left xs (x ∷ []) 0 k (omega (arith, h.0)) ∙ h.1 k r
 
 same-labelled : (f : ℕ → ℕ) (labels : List ℕ) → IsLabelled f labels → (u w : ℕ) → SameBlock (grouped labels) u w ↔ ((f u ≡ f w) × (f u ≡ no_label → ⊥))
 same-labelled f labels h u w = (there, back)

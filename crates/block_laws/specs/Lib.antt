@@ -1,0 +1,5 @@
+pub mod Assembly
+pub mod Components
+pub mod Steps
+pub mod Closing
+pub mod Lattice

@@ -1,0 +1,15 @@
+//! Octagons as their components: Bottom, or a partition with one half matrix a block, whose blocks are exactly the
+//! components of the finite entries. The value that is meant is the assembly of the blocks.
+//!
+//! After G. Singh, M. Püschel and M. Vechev, "Making Numerical Program Analysis Fast", PLDI 2015; here the blocks are kept
+//! exact. A block that two values share is shared, not copied.
+#![tactic(auto)]
+
+mod assembly;
+mod same;
+#[cfg(test)]
+mod tests;
+mod value;
+
+pub use memory::NoMemory;
+pub use value::DecOct;
