@@ -20,10 +20,10 @@ one-word (a ∷ []) one = refl
 one-word (a ∷ b ∷ ws) one = absurd (omega arith)
 
 pub two-words : (words : List (Bor Text)) → length words ≡ 2 → texts words ≡ at words 0 ∷ at words 1 ∷ []
-two-words [] one = absurd (omega arith)
-two-words (a ∷ []) one = absurd (omega arith)
-two-words (a ∷ b ∷ []) one = refl
-two-words (a ∷ b ∷ c ∷ ws) one = absurd (omega arith)
+two-words [] two = absurd (omega arith)
+two-words (a ∷ []) two = absurd (omega arith)
+two-words (a ∷ b ∷ []) two = refl
+two-words (a ∷ b ∷ c ∷ ws) two = absurd (omega arith)
 
 -- ---- bench
 
@@ -42,7 +42,7 @@ bench-other (a ∷ b ∷ ws) other = refl
 pub replay-two : (words : List (Bor Text)) → length words ≡ 2
     → cond (is_file_word (at words 0) && is_file_word (at words 1)) (Some (Replay (at words 0) (at words 1))) None ≡ replay_of (texts words)
 unfolding replay_of
-replay-two words one = rw (two-words words one) refl
+replay-two words two = rw (two-words words two) refl
 
 pub replay-other : (words : List (Bor Text)) → length words ≢ 2 → None ≡ replay_of (texts words)
 unfolding replay_of

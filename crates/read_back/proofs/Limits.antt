@@ -77,11 +77,11 @@ lighter_then xs ys zs v w = record {
 
 -- ---- lists after one another
 
-depth_to-append : (d : ℕ) (xs ys : List Lexeme) → depth_to d (xs ++ ys) ≡ depth_to (depth_to d xs) ys
+pub depth_to-append : (d : ℕ) (xs ys : List Lexeme) → depth_to d (xs ++ ys) ≡ depth_to (depth_to d xs) ys
 depth_to-append d [] ys = refl
 depth_to-append d (x ∷ xs) ys = depth_to-append (depth_after d x.kind) xs ys
 
-run_to-append : (r : ℕ) (xs ys : List Lexeme) → run_to r (xs ++ ys) ≡ run_to (run_to r xs) ys
+pub run_to-append : (r : ℕ) (xs ys : List Lexeme) → run_to r (xs ++ ys) ≡ run_to (run_to r xs) ys
 run_to-append r [] ys = refl
 run_to-append r (x ∷ xs) ys = run_to-append (run_after r x.kind) xs ys
 
@@ -93,11 +93,11 @@ pub keeps_right : (d r : ℕ) (xs ys : List Lexeme) → Keeps d r (xs ++ ys) →
 keeps_right d r [] ys h = h
 keeps_right d r (x ∷ xs) ys h = keeps_right (depth_after d x.kind) (run_after r x.kind) xs ys h.2
 
-keeps_join : (d r : ℕ) (xs ys : List Lexeme) → Keeps d r xs → Keeps (depth_to d xs) (run_to r xs) ys → Keeps d r (xs ++ ys)
+pub keeps_join : (d r : ℕ) (xs ys : List Lexeme) → Keeps d r xs → Keeps (depth_to d xs) (run_to r xs) ys → Keeps d r (xs ++ ys)
 keeps_join d r [] ys h k = k
 keeps_join d r (x ∷ xs) ys h k = (h.0, h.1, keeps_join (depth_after d x.kind) (run_after r x.kind) xs ys h.2 k)
 
-fit_join : (xs ys : List Lexeme) → AreFit xs → AreFit ys → AreFit (xs ++ ys)
+pub fit_join : (xs ys : List Lexeme) → AreFit xs → AreFit ys → AreFit (xs ++ ys)
 fit_join [] ys h k = k
 fit_join (x ∷ xs) ys h k = (h.0, fit_join xs ys h.1 k)
 

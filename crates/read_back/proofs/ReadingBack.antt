@@ -8,7 +8,7 @@ use Rattle.spl_parser.specs.TreeOf.{tree_of}
 use Rattle.spl_print.specs.Canonical.{Noted, canonical}
 use Rattle.read_back.specs.ReadsBack.{HasNoClose, ReadsAs, CanonicalTextReadsBack}
 use Rattle.read_back.proofs.Lexemes.{said, program_says}
-use Rattle.read_back.proofs.Words.{lex}
+use Rattle.read_back.proofs.Words.{Reads, lex}
 use Rattle.read_back.proofs.Fit.{AreFit}
 use Rattle.read_back.proofs.Written.{read_canonical}
 use Rattle.read_back.proofs.Limits.{Lighter, Keeps}
@@ -16,12 +16,10 @@ use Rattle.read_back.proofs.Sources.{lighter_program}
 use Rattle.read_back.proofs.Statements.{program_derives}
 use Rattle.read_back.proofs.Unbroken.{tokens_fit, tokens_keep, unbroken_from}
 
--- what says a program that is fit and keeps the limits reads as it
-reads_as : (bytes : List ℕ) (p : Program) (noted : Noted) → AreFit (program_says p) → Keeps 0 0 (program_says p)
-    → All HasNoClose noted.points → All HasNoClose noted.closing → ReadsAs (canonical bytes p noted) p
-reads_as bytes p noted fit keeps points closing =
-    let text : List ℕ = canonical bytes p noted in
-    let l = lex text (program_says p) (read_canonical bytes p noted fit points closing) text 0 refl (omega arith) in
+-- a text that reads as what a fit program says, within the limits, reads as that program
+pub reads_from : (text : List ℕ) (p : Program) → Reads text (program_says p) → AreFit (program_says p) → Keeps 0 0 (program_says p) → ReadsAs text p
+reads_from text p reads fit keeps =
+    let l = lex text (program_says p) reads text 0 refl (omega arith) in
     let d = program_derives p text l.tokens l.says in
     record {
       tokens = l.tokens;
@@ -31,6 +29,11 @@ reads_as bytes p noted fit keeps points closing =
       derives = (d.0, d.1, refl);
       same = d.2;
     }
+
+-- what says a program that is fit and keeps the limits reads as it
+reads_as : (bytes : List ℕ) (p : Program) (noted : Noted) → AreFit (program_says p) → Keeps 0 0 (program_says p)
+    → All HasNoClose noted.points → All HasNoClose noted.closing → ReadsAs (canonical bytes p noted) p
+reads_as bytes p noted fit keeps points closing = reads_from (canonical bytes p noted) p (read_canonical bytes p noted fit points closing) fit keeps
 
 pub reads_back : TokensAreSpelled → CanonicalTextReadsBack
 reads_back spells bytes source tokens p noted cut unbroken derives points closing =

@@ -37,6 +37,7 @@ fn words_stand_in_order(rt: HostRuntime) -> Result<(), Fail> {
     assert_eq!(rt; words.word(0), b"--full".as_slice());
     assert_eq!(rt; words.word(1), b"".as_slice());
     assert_eq!(rt; words.word(2), b"\xff".as_slice());
+    assert_eq!(rt; words.as_slice()[0].as_slice(), b"--full".as_slice());
     Ok(())
 }
 

@@ -46,6 +46,13 @@ impl Words {
         self.words.len()
     }
 
+    /// All words, in their order.
+    pub fn as_slice(&self) -> &[Vec<u8>]
+        ensures { map (λ word. word.items) result.now ≡ self.now }
+    {
+        self.words.as_slice()
+    }
+
     /// The word at a place, counted from 0.
     pub fn word(&self, place: usize) -> &[u8]
         requires { place < length self.now }

@@ -1,0 +1,2 @@
+pub mod ProgramOf
+pub mod Accepted

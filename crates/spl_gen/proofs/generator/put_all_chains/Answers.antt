@@ -1,0 +1,6 @@
+use Rattle.spl_gen.specs.Generated.{chain}
+use Rattle.spl_gen.proofs.Groups.{group-put}
+use Rattle.spl_gen.proofs.generator.put_all_chains.Goals as goal
+
+pub loop-k-preserved : goal.loop-k-preserved
+loop-k-preserved c = group-put chain c.loop-k.k c.args.out.now.items c.loop-k.out.items c.put_chain.new.out.items c.loop-k.invariant c.in_ok-put_chain.ensures
