@@ -1,11 +1,13 @@
 -- Entries of the steps of the tight closure, from the words of the code.
-use Rattle.std.proofs.Common.{◌≡◌, ℕ, Bool, true, false, cond, eqb, Some, None, refl, sym, ap, ◌∙◌}
+use Rattle.std.proofs.Common.{◌≡◌, ℕ, ◌/◌, Bool, true, false, cond, eqb, length, Some, None, refl, sym, ap, ◌∙◌}
 use Rattle.std.specs.Prelude.{ℤ}
 use Rattle.std.proofs.lemmas.Bool.Decides.{Decides-eqb}
 use Rattle.oct_def.specs.Bound.{bound_of, plus, evened, is_negative}
-use Rattle.oct_def.specs.Table.{Matrix, at}
+use Rattle.oct_def.specs.Table.{Matrix, table, at}
 use Rattle.oct_def.specs.Matrix.{opposite}
-use Rattle.oct_def.specs.Tight.{closure, has_negative_cycle, even_entry, evening, crossing, has_crossing, strengthening, tight_even, tight_closed, tight}
+use Rattle.oct_def.specs.Tight.{pair_steps, closure, has_negative_cycle, even_entry, evening, crossing, has_crossing, strong_entry, strengthening, tight_even, tight_closed, tight}
+use Rattle.oct_def.proofs.Tables.{length-table}
+use Rattle.oct_def.proofs.Sound.{length-pair_steps}
 
 pub even_entry-unary : (m : Matrix) (i j : ℕ) → j ≡ opposite i → even_entry m i j ≡ evened (at m i j)
 unfolding even_entry
@@ -43,3 +45,17 @@ unfolding tight tight_closed tight_even
 tight-strong m c v s e h f k g =
     ap Some g ∙ ap (λ (b : Bool). cond b None (Some (strengthening v))) k ∙ ap tight_even f
     ∙ ap (λ (b : Bool). cond b None (tight_even (evening c))) h ∙ ap tight_closed e
+
+-- the tight closure keeps the number of rows
+pub length-tight : (m r : Matrix) → Some r ≡ tight m → length r ≡ length m
+unfolding tight tight_closed tight_even strengthening evening closure
+length-tight m r e =
+    let c = pair_steps (length m / 2) m in
+    let v = table (length c) (even_entry c) in
+    let same = by c v (has_negative_cycle c) (has_crossing v) e in
+    ap length same ∙ length-table (length v) (strong_entry v) ∙ length-table (length c) (even_entry c) ∙ length-pair_steps (length m / 2) m
+  where
+    by : (c v : Matrix) (a b : Bool) → Some r ≡ cond a None (cond b None (Some (table (length v) (strong_entry v)))) → r ≡ table (length v) (strong_entry v)
+    by c v true b h = cc
+    by c v false true h = cc
+    by c v false false h = cc

@@ -1,18 +1,18 @@
 -- Assignments by the forms of expressions.
-use Rattle.std.proofs.Common.{◌≡◌, ◌⊎◌, ℕ, ◌+◌, ◌*◌, ◌<◌, ◌≤◌, [], ◌∷◌, ◌++◌, List, length, length-append, Option, Some, None, pos, negsuc, refl, sym, ap, subst, ⊎_elim, ◌∙◌, arith}
+use Rattle.std.proofs.Common.{◌≡◌, ◌⊎◌, ℕ, ◌+◌, ◌*◌, ◌<◌, ◌≤◌, [], ◌∷◌, ◌++◌, List, length, length-append, Option, Some, None, refl, sym, ap, subst, ⊎_elim, ◌∙◌, arith}
 use Rattle.std.specs.Option.{option_map, option_and_then}
 use Rattle.oct_def.specs.Table.{Matrix}
 use Rattle.oct_def.specs.Matrix.{IsEvenMatrix}
 use Rattle.oct_def.specs.Tight.{tight}
-use Rattle.oct_def.specs.Octagon.{Octagon, IsOctagon, IsValueOver, bottom_value, on_matrix}
+use Rattle.oct_def.specs.Octagon.{Octagon, IsValueOver, bottom_value, on_matrix}
 use Rattle.spl_core.specs.Expression.{Expression, Variable, IsOver}
 use Rattle.interval_form.specs.declared.interval.Interval.{Interval}
-use Rattle.interval_form.specs.Interval.{unbounded, ranges_of, point, negated, difference_of}
-use Rattle.interval_form.specs.Form.{Form, coefficient, form_of}
-use Rattle.interval_form.specs.Linear.{variable_form, constant_form, no_terms, linear_form, difference_form, difference_term, sum_form, sum_term, settled}
+use Rattle.interval_form.specs.Interval.{unbounded, ranges_of, difference_of}
+use Rattle.interval_form.specs.Form.{Form, coefficient}
+use Rattle.interval_form.specs.Linear.{variable_form, linear_form, difference_form, difference_term, settled}
 use Rattle.interval_form.specs.FormBounds.{bounded}
 use Rattle.interval_form.specs.Sparse.{Sparse, IsFormOver, form_in, term_at}
-use Rattle.interval_form.proofs.Forms.{coefficient-form_of, coefficient-form_of_past, constant-form_of}
+use Rattle.interval_form.proofs.Forms.{coefficient-form_of, coefficient-form_of_past}
 use Rattle.interval_form.proofs.Merging.{term_at-past, terms_widened}
 use Rattle.interval_form.proofs.Dense.{same_form, constant-in}
 use Rattle.interval_form.proofs.Bounding.{length-ranges_of}
@@ -90,12 +90,6 @@ equated-is n m w ranges s t below above e h v x b a =
     a ∙ (wider-right n ranges (form_in (length ranges) t) s h (omega arith) ∙ ap (λ (f : Form). difference_form ranges f (form_in n s)) new) in
     rw (first, second, x) (ap (λ (r : List Interval).
     option_and_then (bounded r (difference_form r (variable_form (n + 1) n) (form_in n s))) (bounded r (difference_form r (form_in n s) (variable_form (n + 1) n)) (extended n 1 m))) e)
-
-pub and-none : (go : Matrix → Option Matrix) (first whole : Option Matrix) → None ≡ first → option_and_then go first ≡ whole → None ≡ whole
-and-none go first whole e h = ap (option_and_then go) e ∙ h
-
-pub and-some : (go : Matrix → Option Matrix) (first whole after : Option Matrix) (m : Matrix) → Some m ≡ first → after ≡ go m → option_and_then go first ≡ whole → after ≡ whole
-and-some go first whole after m e r h = r ∙ (ap (option_and_then go) e ∙ h)
 
 pub length-equated : (n : ℕ) (f : Form) (m k : Matrix) → Some k ≡ equated_to n f m → length k ≡ 2 * (n + 1)
 unfolding extended

@@ -4,7 +4,7 @@ pub mod Targets
 pub mod Bringing
 pub mod Entering
 pub mod Entries
-pub mod Equations
+pub mod Adding
 pub mod Values
 pub mod Taking
 pub mod Ranging

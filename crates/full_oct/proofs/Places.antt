@@ -5,13 +5,13 @@ use Rattle.std.proofs.Common.{length-append, add-one, Bool, true, false, ◌||�
 use Rattle.std.proofs.lemmas.Nat.{mul-add-lt, div-mul-add, mod-mul-add, div-add-mod'}
 use Rattle.std.proofs.Math.Nat.{mul-le-mul_left, div-lt_iff_lt-mul, mod-lt}
 use Rattle.std.proofs.lemmas.List.{ext_get_or, get_or_push, get_or_read, get_or_append_left}
-use Rattle.oct_def.specs.Bound.{bound_of, word_of}
+use Rattle.oct_def.specs.Bound.{bound_of}
 use Rattle.oct_def.specs.Table.{Matrix, at, some_index}
 use Rattle.oct_def.specs.Tight.{pair_step, pair_steps}
 use Rattle.oct_def.proofs.Indices.{some_index-each}
 use Rattle.oct_def.specs.Matrix.{IsSquare}
 use Rattle.oct_def.proofs.Tables.{length-table, at-table, square-table}
-use Rattle.oct_def.proofs.WordBounds.{word_of-bound_of, same_word}
+use Rattle.oct_def.proofs.WordBounds.{same_word}
 use Rattle.full_oct.specs.Words.{word_entry, matrix_of, IsFull}
 
 pub length-matrix_of : (size : ℕ) (words : List ℤ) → length (matrix_of size words) ≡ size
@@ -47,9 +47,6 @@ pub bound_at : (size : ℕ) (words : List ℤ) (m : Matrix) (i j : ℕ) (w : ℤ
 bound_at size words m i j w e f p q h =
     ap bound_of (get_or_read words (i * size + j) w (place_within size words i j f p q) h (pos 0))
     ∙ sym (at-matrix_of size words i j p q) ∙ ap (λ t. at t i j) e
-
-pub word_at : (w : ℤ) (m : Matrix) (i j : ℕ) → bound_of w ≡ at m i j → w ≡ word_of (at m i j)
-word_at w m i j h = sym (word_of-bound_of w) ∙ ap word_of h
 
 -- ---- places filled one after the other
 

@@ -117,9 +117,6 @@ pub record Stepped (E : ℕ → ℕ → Bound) (old now : Matrix) (i : ℕ) : Ty
   pub done : (r c : ℕ) → r < i → c < length old → at now r c ≡ E r c
   pub left : (r c : ℕ) → i ≤ r → r < length old → c < length old → at now r c ≡ at old r c
 
-pub stepped-none : (E : ℕ → ℕ → Bound) (m : Matrix) → IsSquare m → Stepped E m m 0
-stepped-none E m sq = record { rows = refl; square = sq; done = λ r c h p. absurd (omega (arith, h)); left = λ r c h p q. refl }
-
 pub stepped-more : (E : ℕ → ℕ → Bound) (old now next : Matrix) (i : ℕ) → Stepped E old now i → i < length old → length next ≡ length now → IsSquare next → ((r c : ℕ) → r < length now → c < length now → (r ≡ i → ⊥) → at next r c ≡ at now r c) → ((c : ℕ) → c < length old → at next i c ≡ E i c) → Stepped E old next (i + 1)
 stepped-more E old now next i f p e sq others row = record {
   rows = e ∙ f.rows;

@@ -1,12 +1,11 @@
 -- A matrix that took the bounds of a form is the matrix with these bounds.
-use Rattle.std.proofs.Common.{◌≡◌, ℕ, ◌+◌, ◌*◌, ◌<◌, ◌≤◌, ◌&&◌, Bool, true, false, cond, List, [], ◌∷◌, ◌++◌, length, drop, get_or, Option, Some, None, refl, sym, ap, subst, arith, nat_eq, ◌∙◌, eq-eqb, eqb-true, ne_eqb, add-one}
+use Rattle.std.proofs.Common.{◌≡◌, ℕ, ◌+◌, ◌*◌, ◌<◌, ◌&&◌, Bool, true, false, cond, List, [], ◌∷◌, length, drop, get_or, Option, Some, None, refl, sym, ap, arith, nat_eq, ◌∙◌, eq-eqb, eqb-true, ne_eqb, add-one}
 use Rattle.std.specs.Prelude.{ℤ}
 use Rattle.std.specs.List.{All}
 use Rattle.std.specs.Option.{option_and_then}
 use Rattle.std.proofs.Math.Seq.{drop-cons}
-use Rattle.std.proofs.Math.ListN.{drop_of_length-le}
 use Rattle.oct_def.specs.Bound.{Bound, least, bound_of}
-use Rattle.oct_def.specs.Table.{Matrix, table, at}
+use Rattle.oct_def.specs.Table.{Matrix, at}
 use Rattle.oct_def.specs.Matrix.{IsSquare}
 use Rattle.oct_def.proofs.Orders.{least_assoc}
 use Rattle.oct_def.proofs.Tables.{length-table, at-table, square-table, is-table}
@@ -75,9 +74,6 @@ pub taken_more : (old m next : Matrix) (bs : List OctBound) (k : ℕ) (d : OctBo
 taken_more old m next bs k d l h e =
     let q : drop k bs ≡ get_or bs k d ∷ drop (k + 1) bs = drop-cons bs k d l ∙ rw (add-one k) refl in
     ap (λ (x : Matrix). taken x (drop (k + 1) bs)) e ∙ (sym (ap (taken m) q) ∙ h)
-
-pub taken_done : (old m : Matrix) (bs : List OctBound) (k : ℕ) → length bs ≤ k → taken m (drop k bs) ≡ taken old bs → m ≡ taken old bs
-taken_done old m bs k l h = sym (ap (taken m) (drop_of_length-le bs l)) ∙ h
 
 pub next_bound : (m next : Matrix) (b : OctBound) (old word passed : ℤ) → bound_of old ≡ at m b.row b.column → bound_of word ≡ least (bound_of old) (bound_of b.word)
     → passed ≡ word → next ≡ replaced m b.row b.column (bound_of passed) → next ≡ with_bound m b

@@ -1,5 +1,5 @@
 -- Variables in the places of others, from the lists of the code.
-use Rattle.std.proofs.Common.{◌≡◌, ◌≢◌, ◌⊎◌, inl, inr, ℕ, zero, suc, ◌+◌, ◌*◌, ◌<◌, cond, List, [], ◌∷◌, length, get_or, refl, sym, ap, ◌∙◌, arith, eq-eqb, ne_eqb}
+use Rattle.std.proofs.Common.{◌≡◌, ◌≢◌, ℕ, zero, suc, ◌+◌, ◌*◌, ◌<◌, cond, List, [], ◌∷◌, length, get_or, refl, sym, ap, ◌∙◌, arith, eq-eqb, ne_eqb}
 use Rattle.std.specs.List.{All}
 use Rattle.std.proofs.lemmas.List.{get_or_default}
 use Rattle.transfer_def.specs.Dimensions.{moved_variable, moved_dimension}
@@ -28,16 +28,6 @@ moved-none first (x ∷ targets) v other =
 -- none of the first targets is v
 abbrev pub NoneIs : List ℕ → ℕ → ℕ → Type 0
 NoneIs targets k v = (i : ℕ) → i < k → get_or targets i 0 ≢ v
-
-pub none_is-more : (targets : List ℕ) (k v : ℕ) → NoneIs targets k v → get_or targets k 0 ≢ v → NoneIs targets (k + 1) v
-none_is-more targets k v h d i p = by (cases i p)
-  where
-    cases : (i : ℕ) → i < k + 1 → (i ≡ k) ⊎ (i < k)
-    cases i p = grind arith
-
-    by : (i ≡ k) ⊎ (i < k) → get_or targets i 0 ≢ v
-    by (inl e) = λ q. d (ap (λ n. get_or targets n 0) (sym e) ∙ q)
-    by (inr l) = h i l
 
 -- each place is one of the matrix's
 pub moved-inside : (n size : ℕ) (targets places : List ℕ) → AreMoved n targets places → size ≡ 2 * (n + length targets) → All (λ p. p < size) places

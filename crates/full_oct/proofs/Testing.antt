@@ -1,10 +1,10 @@
 -- Tests by the forms of differences, and by the parts of a condition.
-use Rattle.std.proofs.Common.{◌≡◌, ℕ, ◌*◌, ◌<◌, List, length, get_or, Bool, true, false, not, Option, Some, None, pos, negsuc, refl, sym, ap, subst, ◌∙◌, arith}
+use Rattle.std.proofs.Common.{◌≡◌, ℕ, ◌*◌, ◌<◌, List, length, get_or, Bool, true, false, not, Option, Some, None, pos, negsuc, refl, sym, ap, subst, ◌∙◌}
 use Rattle.std.specs.Option.{option_and_then}
 use Rattle.oct_def.specs.Table.{Matrix}
 use Rattle.oct_def.specs.Matrix.{IsEvenMatrix}
 use Rattle.oct_def.specs.Tight.{tight}
-use Rattle.oct_def.specs.Octagon.{Octagon, IsOctagon, IsValueOver, bottom_value, join_value, on_matrix}
+use Rattle.oct_def.specs.Octagon.{Octagon, IsValueOver, bottom_value, join_value}
 use Rattle.spl_core.specs.declared.parts.Cmp.{Cmp}
 use Rattle.spl_core.specs.declared.parts.Cmp.TheVariants as cmp
 use Rattle.spl_core.specs.declared.parts.CoreCond.{CoreCond}

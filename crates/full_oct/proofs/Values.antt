@@ -1,33 +1,18 @@
 -- Values of the plain domain, from the matrices of the code.
-use Rattle.std.proofs.Common.{◌≡◌, ℕ, [], ◌∷◌, ◌+◌, ◌*◌, ◌<◌, List, Option, Some, None, length, sym, ap, ◌∙◌, subst}
-use Rattle.std.specs.Prelude.{pos, ◌≤ℤ◌}
+use Rattle.std.proofs.Common.{◌≡◌, ℕ, List, Option, Some, None, length, sym, ap, ◌∙◌, subst}
 use Rattle.std.specs.Option.{option_map, option_and_then}
-use Rattle.oct_def.specs.Bound.{top_limit}
-use Rattle.oct_def.specs.Table.{Matrix, table}
-use Rattle.oct_def.specs.Matrix.{IsMatrix, IsEvenMatrix}
+use Rattle.oct_def.specs.Table.{Matrix}
+use Rattle.oct_def.specs.Matrix.{IsEvenMatrix}
 use Rattle.oct_def.specs.Tight.{tight}
-use Rattle.oct_def.specs.Octagon.{Octagon, IsOctagon, IsValueOver, bottom_value, top_value, top_matrix, tight_value, on_either, on_both, join_matrix, join_value, widen_matrix, widen_value, narrow_matrix, narrow_value}
+use Rattle.oct_def.specs.Octagon.{Octagon, IsValueOver, bottom_value, top_value, top_matrix, tight_value, on_either, on_both, join_matrix, join_value, widen_matrix, widen_value, narrow_matrix, narrow_value}
 use Rattle.oct_def.proofs.Lattice.{octagon-top, octagon-join, octagon-widen, octagon-narrow}
 use Rattle.oct_def.proofs.Values.{value-tight}
-use Rattle.spl_core.specs.Expression.{Expression, Number, Variable, Add}
 use Rattle.transfer_def.specs.Dimensions.{moved}
 use Rattle.transfer_def.specs.Enter.{enter_matrix, enter_value}
 use Rattle.transfer_def.specs.Back.{joined, back_value}
 use Rattle.transfer_def.proofs.Enter.{value-enter_value}
 use Rattle.transfer_def.proofs.Back.{value-back_value}
-use Rattle.transfer_def.specs.Assign.{equated, assigned, assign_value}
-use Rattle.transfer_def.specs.Special.{constant_entry, offset_entry}
-use Rattle.transfer_def.proofs.Expressions.{equated-number, equated-variable, equated-plus}
-use Rattle.transfer_def.proofs.Values.{value-assigned}
 use Rattle.full_oct.specs.Value.{octagon_of}
-
--- a value that is a matrix, and one that is Bottom
-pub kept_matrix : (v : Octagon) (d : ℕ) (m : Matrix) → octagon_of d (Some m) ≡ v → IsOctagon v → IsEvenMatrix d m
-kept_matrix v d m e h = subst IsOctagon (sym e) h
-
--- a matrix behind a reference
-pub matrix_read : (n : ℕ) (m r : Matrix) → r ≡ m → IsEvenMatrix n m → IsMatrix n r
-matrix_read n m r e h = subst (IsMatrix n) (sym e) h.matrix
 
 -- ---- top
 
@@ -53,11 +38,6 @@ unfolding tight_value
 close_is d m r v w e t h = h ∙ ap (octagon_of d) t ∙ ap (λ (u : Octagon). octagon_of u.dims (option_and_then tight u.matrix)) e
 
 -- ---- the lattice
-
--- two values that are matrices over as many variables have matrices of one size
-pub same_rows : (d e : ℕ) (m n : Matrix) (a b : Octagon) → octagon_of d (Some m) ≡ a → octagon_of e (Some n) ≡ b → a.dims ≡ b.dims → IsEvenMatrix d m → IsEvenMatrix e n → length n ≡ length m
-same_rows d e m n a b ea eb h hm hn =
-    hn.matrix.rows ∙ ap (λ k. 2 * k) (ap (λ (t : Octagon). t.dims) eb ∙ sym h ∙ sym (ap (λ (t : Octagon). t.dims) ea)) ∙ sym hm.matrix.rows
 
 -- what an operation makes of Bottom and another value, of a matrix and Bottom, and of two matrices
 pub either_first : (f : Matrix → Matrix → Matrix) (d : ℕ) (a b v : Octagon) → octagon_of d None ≡ a → a.dims ≡ b.dims → v ≡ b → v ≡ octagon_of a.dims (on_either f a.matrix b.matrix)
@@ -144,30 +124,3 @@ back_is d e m x j r args outputs targets a b v ea eb ej er h =
     h ∙ ap (octagon_of d) (er ∙ ap (λ k. option_map (moved d targets) (tight k)) ej)
     ∙ ap (λ (t : Octagon). octagon_of d (back_matrix d args outputs targets (Some m) t.matrix)) eb
     ∙ ap (λ (t : Octagon). octagon_of t.dims (back_matrix t.dims args outputs targets t.matrix b.matrix)) ea
-
--- ---- assignments
-
-pub assign_bottom : (x d : ℕ) (e : Expression) (v : Octagon) → octagon_of d None ≡ v → octagon_of d None ≡ assign_value x e v
-unfolding assign_value
-assign_bottom x d e v h = ap (λ (t : Octagon). octagon_of t.dims (option_and_then (assigned t.dims x e) t.matrix)) h
-
-pub assign_kept : (x d : ℕ) (e : Expression) (m : Matrix) (r : Option Matrix) → IsEvenMatrix d m → r ≡ assigned d x e m → IsValueOver d r
-assign_kept x d e m r h a = subst (IsValueOver d) (sym a) (value-assigned d x e m h)
-
-pub assign_is : (x d : ℕ) (e : Expression) (m : Matrix) (r : Option Matrix) (v w : Octagon) → octagon_of d (Some m) ≡ v → r ≡ assigned d x e m → w ≡ octagon_of d r → w ≡ assign_value x e v
-unfolding assign_value
-assign_is x d e m r v w h a k = k ∙ ap (octagon_of d) a ∙ ap (λ (t : Octagon). octagon_of t.dims (option_and_then (assigned t.dims x e) t.matrix)) h
-
--- an assignment closes the equated matrix
-assigned_by : (n x : ℕ) (e : Expression) (m q : Matrix) (r : Option Matrix) → equated n e m ≡ Some q → r ≡ option_map (moved n (x ∷ [])) (tight q) → r ≡ assigned n x e m
-unfolding assigned
-assigned_by n x e m q r h k = k ∙ sym (ap (λ t. option_map (moved n (x ∷ [])) (option_and_then tight t)) h)
-
-pub number_assigned : (n x c : ℕ) (m q : Matrix) (r : Option Matrix) → pos c ≤ℤ top_limit → q ≡ table (2 * (n + 1)) (constant_entry n (pos c) m) → r ≡ option_map (moved n (x ∷ [])) (tight q) → r ≡ assigned n x (Number c) m
-number_assigned n x c m q r l e k = assigned_by n x (Number c) m q r (equated-number n c m l ∙ ap Some (sym e)) k
-
-pub copy_assigned : (n x y : ℕ) (m q : Matrix) (r : Option Matrix) → y < n → IsMatrix n m → q ≡ table (2 * (n + 1)) (offset_entry n y (pos 0) m) → r ≡ option_map (moved n (x ∷ [])) (tight q) → r ≡ assigned n x (Variable y) m
-copy_assigned n x y m q r l v e k = assigned_by n x (Variable y) m q r (equated-variable n y m l v ∙ ap Some (sym e)) k
-
-pub sum_assigned : (n x y c : ℕ) (m q : Matrix) (r : Option Matrix) → y < n → pos c ≤ℤ top_limit → IsMatrix n m → q ≡ table (2 * (n + 1)) (offset_entry n y (pos c) m) → r ≡ option_map (moved n (x ∷ [])) (tight q) → r ≡ assigned n x (Add (Variable y) (Number c)) m
-sum_assigned n x y c m q r l t v e k = assigned_by n x (Add (Variable y) (Number c)) m q r (equated-plus n y c m l t v ∙ ap Some (sym e)) k

@@ -9,8 +9,7 @@ ghost use Rattle.transfer_def.specs.Assign.{assigned, assign_value};
 ghost use Rattle.transfer_def.specs.Forget.{forgotten_entry, forgotten, forget_value};
 ghost use Rattle.full_oct.specs.Formed.{equated_to, assigned_to};
 
-use crate::equation::top_word;
-use crate::matrix::FullMatrix;
+use crate::matrix::{FullMatrix, top_word};
 use crate::ranges::RangeTable;
 use crate::value::{FullValue, shared};
 use interval_form::{Form, linearise};

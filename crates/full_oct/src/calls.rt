@@ -11,7 +11,7 @@ ghost use Rattle.transfer_def.specs.Enter.{argument_dimension as argument_dimens
 ghost use Rattle.transfer_def.specs.Back.{joined_dimension as joined_dimension_of, brought_in_row, joined, back_value};
 ghost use Rattle.full_oct.specs.Words.{lowered};
 
-use crate::equation::are_below;
+use crate::dimensions::are_below;
 use crate::matrix::FullMatrix;
 use crate::value::{FullValue, shared};
 use oct_def::{NONE, NoMemory, least_word};

@@ -199,7 +199,6 @@ impl FullValue {
     /// The tight closure. For n variables it takes time of order n^3 and the memory of at most three matrices at a time.
     pub fn closed(&self, alloc: Global) -> Result<FullValue, NoMemory>
         ensures value { IfOk result (λ v. v ≡ tight_value self.now) }
-        ensures dims { IfOk result (λ v. v.dims ≡ self.now.dims) }
     {
         match &self.matrix {
             None => Ok(FullValue::bottom(self.dims)),

@@ -1,15 +1,21 @@
 // Variables that are added behind those of a matrix, and that take the places of others.
-ghost use Rattle.std.specs.Prelude.{◌≡◌, ℕ, ◌+◌, ◌*◌, ◌<◌, ◌≤◌, IfOk, length, slice_index_or};
+ghost use Rattle.std.specs.Prelude.{◌≡◌, ℕ, ◌+◌, ◌*◌, ◌&&◌, nat_lt, ◌<◌, ◌≤◌, IfOk, length, slice_index_or};
 ghost use Rattle.std.specs.List.{All};
 ghost use Rattle.oct_def.specs.Bound.{bound_of};
 ghost use Rattle.oct_def.specs.Table.{at};
 ghost use Rattle.transfer_def.specs.Dimensions.{extended_entry, extended, moved_variable as moved_variable_of, moved_dimension as moved_dimension_of, moved};
 ghost use Rattle.full_oct.specs.Places.{AreMoved};
 
-use crate::equation::{are_below, top_word};
-use crate::matrix::FullMatrix;
+use crate::matrix::{FullMatrix, top_word};
 use oct_def::NoMemory;
 use std::alloc::Global;
+
+/// Whether i and j are below n.
+pub fn are_below(i: usize, j: usize, n: usize) -> bool
+    ensures { result ≡ (nat_lt i n && nat_lt j n) }
+{
+    i < n && j < n
+}
 
 // The variable that takes the place of v: of the first target the first added one, and so on.
 fn moved_variable(first: usize, targets: &[u32], v: usize) -> usize

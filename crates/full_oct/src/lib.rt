@@ -2,12 +2,10 @@
 #![tactic(auto)]
 
 mod assign;
-mod assignment;
 mod bounds;
 mod calls;
 mod closing;
 mod dimensions;
-mod equation;
 mod lattice;
 mod matrix;
 mod plain;
@@ -17,6 +15,3 @@ mod value;
 
 pub use plain::FullDomain;
 pub use value::FullValue;
-
-#[cfg(test)]
-mod tests;

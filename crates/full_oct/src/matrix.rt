@@ -1,12 +1,13 @@
 // A full matrix of words: one word for each place, row after row. One builder carries every loop over the places.
 ghost use Rattle.std.specs.Prelude.{◌≡◌, ℕ, ◌+◌, ◌*◌, ◌/◌, ◌%◌, ◌<◌, ◌≤◌, IfOk, length, ℤ, pos, slice_index_or};
 ghost use Rattle.std.specs.Bool.{Decides};
-ghost use Rattle.oct_def.specs.Bound.{bound_of, word_of};
+ghost use Rattle.oct_def.specs.Bound.{bound_of};
 ghost use Rattle.oct_def.specs.Table.{at};
 ghost use Rattle.oct_def.specs.Matrix.{IsSquare};
+ghost use Rattle.oct_def.specs.Octagon.{top_entry, top_matrix};
 ghost use Rattle.full_oct.specs.Words.{replaced, RowIs};
 
-use oct_def::NoMemory;
+use oct_def::{NONE, NoMemory};
 use std::alloc::Global;
 use std::marker::Model;
 
@@ -43,10 +44,19 @@ impl FullMatrix {
     pub fn word(&self, i: usize, j: usize) -> i64
         requires row { i < length self.now }
         requires column { j < length self.now }
-        ensures word { result ≡ word_of (at self.now i j) }
         ensures bound { bound_of result ≡ at self.now i j }
     {
         self.words[i * self.size + j]
+    }
+
+    /// The matrix over `dims` variables without bounds.
+    pub fn top(alloc: Global, dims: usize) -> Result<FullMatrix, NoMemory>
+        requires { dims ≤ 256 }
+        ensures top { IfOk result (λ m. m ≡ top_matrix dims) }
+    {
+        let size = 2 * dims;
+        let m = FullMatrix::tabulated(alloc, size, |i, j| top_word(i, j))?;
+        Ok(m)
     }
 
     /// Whether two matrices of one size are the same.
@@ -110,6 +120,13 @@ impl FullMatrix {
         let words = filled(alloc, size, entry)?;
         Ok(FullMatrix { size, words })
     }
+}
+
+/// The word at (i, j) where there is no bound but 0 on the diagonal.
+pub fn top_word(i: usize, j: usize) -> i64
+    ensures { bound_of result ≡ top_entry i j }
+{
+    if i == j { 0 } else { NONE }
 }
 
 // The words of all places, row after row.

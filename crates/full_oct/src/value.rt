@@ -1,6 +1,6 @@
 // The values of the plain domain: Bottom, or a full matrix that other values may share.
 ghost use Rattle.std.specs.Prelude.{◌≡◌, ℕ, ◌*◌, ◌<◌, ◌≤◌, IfOk, IfSome, IsSome, is_none};
-ghost use Rattle.oct_def.specs.Bound.{bound_of, word_of};
+ghost use Rattle.oct_def.specs.Bound.{bound_of};
 ghost use Rattle.oct_def.specs.Table.{at};
 ghost use Rattle.oct_def.specs.Octagon.{IsOctagon, IsValueOver, bottom_value, top_value};
 ghost use Rattle.full_oct.specs.Value.{octagon_of};
@@ -61,7 +61,6 @@ impl FullValue {
     pub fn top(alloc: Global, dims: u32) -> Result<FullValue, NoMemory>
         requires { dims ≤ 256 }
         ensures value { IfOk result (λ v. v ≡ top_value dims) }
-        ensures dims { IfOk result (λ v. v.dims ≡ dims) }
     {
         let m = FullMatrix::top(alloc, dims as usize)?;
         let v = shared(alloc, dims, Some(m))?;
@@ -99,7 +98,6 @@ impl FullValue {
         requires not_bottom { IsSome self.now.matrix }
         requires row { i < 2 * self.now.dims }
         requires column { j < 2 * self.now.dims }
-        ensures word { IfSome self.now.matrix (λ m. result ≡ word_of (at m i j)) }
         ensures bound { IfSome self.now.matrix (λ m. bound_of result ≡ at m i j) }
     {
         match &self.matrix {

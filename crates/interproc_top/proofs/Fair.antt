@@ -1,5 +1,5 @@
 -- Where the outside is fair, each end of a call but the wanted one is ruled out by its cause.
-use Rattle.std.proofs.Common.{◌≡◌, ◌⊎◌, ℕ, ◌<◌, ◌≤◌, List, length, Option, Some, None, Ok, Err, ◌++◌, ◌+◌, refl, sym, ap, ◌∙◌, subst, inl, inr, arith, length-append}
+use Rattle.std.proofs.Common.{◌≡◌, ◌⊎◌, ℕ, ◌<◌, ◌≤◌, List, length, Some, None, Ok, Err, ◌++◌, ◌+◌, refl, sym, ap, ◌∙◌, subst, inl, inr, arith, length-append}
 use Rattle.std.specs.FinMap as map
 use Rattle.std.specs.Io.KnownBytes.{Appends}
 use Rattle.spl_io.specs.Counts.{Rose}
@@ -8,7 +8,6 @@ use Rattle.spl_text.specs.declared.token.Token.{Token}
 use Rattle.spl_tree.specs.Program.{Program}
 use Rattle.spl_parser.specs.Derives.{Derives}
 use Rattle.spl_types.specs.Checks.{broken_rule}
-use Rattle.small_program.specs.Reading.{Reading, reading_of}
 use Rattle.spl_text.specs.TextRules.{HasOneCut, HasOneFault, EachTextHasOneReading}
 use Rattle.interproc_top.specs.Accepted.{IsTokenized, IsParsed, IsAccepted, BreaksAt}
 use Rattle.interproc_top.specs.Reported.{IsReportOf}
@@ -16,10 +15,13 @@ use Rattle.interproc_top.specs.declared.cause.Rule.{Rule}
 use Rattle.interproc_top.specs.declared.cause.Rule.TheVariants as rule
 use Rattle.interproc_top.specs.Call.{Call, End, Ends, IsRead, IsWritten, IsFair, Answers, Completes, status_at}
 use Rattle.interproc_top.specs.Command.{NamesFile, NamesAFile}
-use Rattle.interproc_top.specs.Report.{report}
+use Rattle.interproc_top.specs.Analysis.{usual, report_on, verdict_on}
+use Rattle.interproc_top.specs.Cause.{status_by}
 use Rattle.interproc_top.specs.declared.cause.Cause.TheVariants as cause
 use Rattle.interproc_top.specs.declared.cause.Status.{Status}
 use Rattle.interproc_top.specs.declared.cause.Status.TheVariants as status
+use Rattle.interproc_top.specs.declared.cause.Verdict.{Verdict}
+use Rattle.interproc_top.specs.declared.cause.Verdict.TheVariants as verdict
 
 -- the bytes have one list of tokens, and these derive one program
 pub record OneReading : Type 0 where
@@ -98,90 +100,80 @@ not_broken one bytes p (rule.Check broken) at is breaks =
     let same : p ≡ breaks.0 = same_program one bytes p breaks.0 is.parsed breaks.1 in
     cc (ap broken_rule same, is.kept, breaks.2)
 
--- a reading of an accepted program is the reading of any
-same_reading : OneReading → (bytes : List ℕ) (p q : Program) (o : Option Reading) → IsAccepted bytes p → IsAccepted bytes q → reading_of p ≡ o → reading_of q ≡ o
-same_reading one bytes p q o a b e = ap reading_of (same_program one bytes q p b.parsed a.parsed) ∙ e
-
--- the report of a file is the one of its program
-same_report : OneReading → (bytes text : List ℕ) (p : Program) (r : Reading) → IsAccepted bytes p → reading_of p ≡ Some r → IsReportOf bytes text → text ≡ report bytes p r
-same_report one bytes text p r is small rep =
+-- the report on a file is the one on its program, and so is what it says of the fails
+same_report : OneReading → (bytes text : List ℕ) (v : Verdict) (p : Program) → IsAccepted bytes p → IsReportOf usual bytes text v → (v ≡ verdict_on usual p) × (text ≡ report_on usual bytes p)
+same_report one bytes text v p is rep =
     let same : rep.program ≡ p = same_program one bytes rep.program p rep.accepted.parsed is.parsed in
-    let read : rep.reading ≡ r = cc (same_reading one bytes rep.program p (Some rep.reading) rep.accepted is rep.small, small) in
-    rep.is ∙ ap (λ q. report bytes q rep.reading) same ∙ ap (report bytes p) read
+    (rep.decided ∙ ap (verdict_on usual) same, rep.written ∙ ap (report_on usual bytes) same)
 
-abbrev Whole : Status → Call → List ℕ → Program → Reading → Type 0
-Whole answer call bytes p r =
-    ((answer ≡ status.Proved) × Appends call.out_before call.out_now (report bytes p r)) ⊎ (answer ≡ status.NoMemory)
+abbrev Whole : Status → Call → List ℕ → Program → Type 0
+Whole answer call bytes p = ((answer ≡ status_by (verdict_on usual p)) × Appends call.out_before call.out_now (report_on usual bytes p)) ⊎ (answer ≡ status.NoMemory)
 
-written : (call : Call) (bytes : List ℕ) (p : Program) (r : Reading) → OneReading → IsFair call bytes → IsAccepted bytes p → reading_of p ≡ Some r → IsWritten call → Appends call.out_before call.out_now (report bytes p r)
-written call bytes p r one fair is small w =
+written : (call : Call) (v : Verdict) (bytes : List ℕ) (p : Program) → OneReading → IsFair call bytes → IsAccepted bytes p → IsWritten call v
+    → (status_by v ≡ status_by (verdict_on usual p)) × Appends call.out_before call.out_now (report_on usual bytes p)
+written call v bytes p one fair is w =
     let e : w.report.bytes ≡ bytes = sym (read_fair call bytes w.report.bytes fair w.report.read) in
-    let rep : IsReportOf bytes w.text = subst (λ b. IsReportOf b w.text) e w.report.report in
-    subst (Appends call.out_before call.out_now) (same_report one bytes w.text p r is small rep) w.whole
+    let rep : IsReportOf usual bytes w.text v = subst (λ b. IsReportOf usual b w.text v) e w.report.report in
+    let same = same_report one bytes w.text v p is rep in
+    (ap status_by same.0, subst (Appends call.out_before call.out_now) same.1 w.whole)
 
-whole : (end : End) (call : Call) → OneReading → Ends end call → (bytes : List ℕ) (p : Program) (r : Reading) → IsFair call bytes → (Rose call.write_before call.write_now → ⊥)
-    → length bytes ≤ most_bytes → IsAccepted bytes p → reading_of p ≡ Some r → Whole (status_at end) call bytes p r
-whole (Ok u) call one ends bytes p r fair writes short is small = inl (refl, written call bytes p r one fair is small ends)
-whole (Err cause.Usage) call one ends bytes p r fair writes short is small = absurd (ends.no_form (fair.name, fair.named))
-whole (Err cause.CannotOpen) call one ends bytes p r fair writes short is small = absurd (not_unopened call bytes ends.name fair ends.named ends.cause)
-whole (Err cause.ReadFault) call one ends bytes p r fair writes short is small = absurd (fair.reads ends.cause)
-whole (Err cause.TooLong) call one ends bytes p r fair writes short is small =
+whole : (end : End) (call : Call) → OneReading → Ends end call → (bytes : List ℕ) (p : Program) → IsFair call bytes → (Rose call.write_before call.write_now → ⊥)
+    → length bytes ≤ most_bytes → IsAccepted bytes p → Whole (status_at end) call bytes p
+whole (Ok v) call one ends bytes p fair writes short is = inl (written call v bytes p one fair is ends)
+whole (Err cause.Usage) call one ends bytes p fair writes short is = absurd (ends.no_form (fair.name, fair.named))
+whole (Err cause.CannotOpen) call one ends bytes p fair writes short is = absurd (not_unopened call bytes ends.name fair ends.named ends.cause)
+whole (Err cause.ReadFault) call one ends bytes p fair writes short is = absurd (fair.reads ends.cause)
+whole (Err cause.TooLong) call one ends bytes p fair writes short is =
     absurd (omega (arith, too_long call bytes ends.name ends.left fair ends.named ends.long))
-whole (Err (cause.Broken broken place)) call one ends bytes p r fair writes short is small =
+whole (Err (cause.Broken broken place)) call one ends bytes p fair writes short is =
     let is' : IsAccepted ends.bytes p = subst (λ b. IsAccepted b p) (read_fair call bytes ends.bytes fair ends.read) is in
     absurd (not_broken one ends.bytes p broken ends.broken.offset is' ends.broken.breaks)
-whole (Err cause.NotYet) call one ends bytes p r fair writes short is small =
-    let is' : IsAccepted ends.bytes p = subst (λ b. IsAccepted b p) (read_fair call bytes ends.bytes fair ends.read) is in
-    absurd (cc (small, same_reading one ends.bytes ends.large.program p None ends.large.accepted is' ends.large.not_small))
-whole (Err cause.WriteFault) call one ends bytes p r fair writes short is small = absurd (writes ends.cause)
-whole (Err cause.NoMemory) call one ends bytes p r fair writes short is small = inr refl
+whole (Err cause.WriteFault) call one ends bytes p fair writes short is = absurd (writes ends.cause)
+whole (Err cause.NoMemory) call one ends bytes p fair writes short is = inr refl
 
 -- where no report can be made of the fair file, the end is a refusal
-refused : (end : End) (call : Call) → Ends end call → (bytes : List ℕ) → IsFair call bytes → ((text : List ℕ) → length bytes ≤ most_bytes → IsReportOf bytes text → ⊥) → Answers (status_at end) status.Refused
-refused (Ok u) call ends bytes fair none =
+refused : (end : End) (call : Call) → Ends end call → (bytes : List ℕ) → IsFair call bytes → ((text : List ℕ) (v : Verdict) → length bytes ≤ most_bytes → IsReportOf usual bytes text v → ⊥) → Answers (status_at end) status.Refused
+refused (Ok v) call ends bytes fair none =
     let e : ends.report.bytes ≡ bytes = sym (read_fair call bytes ends.report.bytes fair ends.report.read) in
-    absurd (none ends.text (subst (λ b. length b ≤ most_bytes) e ends.report.read.short) (subst (λ b. IsReportOf b ends.text) e ends.report.report))
+    absurd (none ends.text v (subst (λ b. length b ≤ most_bytes) e ends.report.read.short) (subst (λ b. IsReportOf usual b ends.text v) e ends.report.report))
 refused (Err cause.Usage) call ends bytes fair none = absurd (ends.no_form (fair.name, fair.named))
 refused (Err cause.CannotOpen) call ends bytes fair none = absurd (not_unopened call bytes ends.name fair ends.named ends.cause)
 refused (Err cause.ReadFault) call ends bytes fair none = absurd (fair.reads ends.cause)
 refused (Err cause.TooLong) call ends bytes fair none = inl refl
 refused (Err (cause.Broken broken place)) call ends bytes fair none = inl refl
-refused (Err cause.NotYet) call ends bytes fair none = inl refl
 refused (Err cause.WriteFault) call ends bytes fair none =
     let e : ends.report.bytes ≡ bytes = sym (read_fair call bytes ends.report.bytes fair ends.report.read) in
-    absurd (none ends.text (subst (λ b. length b ≤ most_bytes) e ends.report.read.short) (subst (λ b. IsReportOf b ends.text) e ends.report.report))
+    absurd (none ends.text ends.verdict (subst (λ b. length b ≤ most_bytes) e ends.report.read.short) (subst (λ b. IsReportOf usual b ends.text ends.verdict) e ends.report.report))
 refused (Err cause.NoMemory) call ends bytes fair none = inr refl
 
 -- ---- words of no form
 
 unnamed : (end : End) (call : Call) → Ends end call → (NamesAFile call.words → ⊥) → status_at end ≡ status.Usage
-unnamed (Ok u) call ends none = absurd (none (ends.report.read.name, ends.report.read.named))
+unnamed (Ok v) call ends none = absurd (none (ends.report.read.name, ends.report.read.named))
 unnamed (Err cause.Usage) call ends none = refl
 unnamed (Err cause.CannotOpen) call ends none = absurd (none (ends.name, ends.named))
 unnamed (Err cause.ReadFault) call ends none = absurd (none ends.named)
 unnamed (Err cause.TooLong) call ends none = absurd (none (ends.name, ends.named))
 unnamed (Err (cause.Broken broken place)) call ends none = absurd (none (ends.read.name, ends.read.named))
-unnamed (Err cause.NotYet) call ends none = absurd (none (ends.read.name, ends.read.named))
 unnamed (Err cause.WriteFault) call ends none = absurd (none (ends.report.read.name, ends.report.read.named))
 unnamed (Err cause.NoMemory) call ends none = absurd (none ends.named)
 
 no_form : (end : End) (call : Call) → Ends end call → status_at end ≡ status.Usage → NamesAFile call.words → ⊥
-no_form (Ok u) call ends e = cc e
+no_form (Ok verdict.AllUnreachable) call ends e = cc e
+no_form (Ok verdict.SomeNotExcluded) call ends e = cc e
 no_form (Err cause.Usage) call ends e = ends.no_form
 no_form (Err cause.CannotOpen) call ends e = cc e
 no_form (Err cause.ReadFault) call ends e = cc e
 no_form (Err cause.TooLong) call ends e = cc e
 no_form (Err (cause.Broken broken place)) call ends e = cc e
-no_form (Err cause.NotYet) call ends e = cc e
 no_form (Err cause.WriteFault) call ends e = cc e
 no_form (Err cause.NoMemory) call ends e = cc e
 
 pub completes : (end : End) (call : Call) → OneReading → Ends end call → Completes (status_at end) call
 completes end call one ends = record {
-  proved = whole end call one ends;
-  long = λ bytes fair long. refused end call ends bytes fair (λ text short rep. omega (arith, long, short));
-  broken = λ bytes broken at fair short breaks. refused end call ends bytes fair (λ text short rep. not_broken one bytes rep.program broken at rep.accepted breaks);
-  not_small = λ bytes fair short large. refused end call ends bytes fair (λ text short rep. cc (rep.small, same_reading one bytes large.program rep.program None large.accepted rep.accepted large.not_small));
+  written = whole end call one ends;
+  long = λ bytes fair long. refused end call ends bytes fair (λ text v short rep. omega (arith, long, short));
+  broken = λ bytes broken at fair short breaks. refused end call ends bytes fair (λ text v short rep. not_broken one bytes rep.program broken at rep.accepted breaks);
   no_form = unnamed end call ends;
   form = no_form end call ends;
 }

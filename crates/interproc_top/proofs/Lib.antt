@@ -1,13 +1,2 @@
 pub mod Fair
-pub mod NamedConstraints
-pub mod Notes
-pub mod PairBounds
-pub mod ReadableNames
-pub mod ReadableNotes
-pub mod ReadablePieces
-pub mod ReadablePlain
-pub mod Reporting
-pub mod Running
-pub mod Satisfied
-pub mod Steps
-pub mod Readings
+pub mod Promised

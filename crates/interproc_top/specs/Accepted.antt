@@ -8,7 +8,6 @@ use Rattle.spl_text.specs.TextRules.{IsUnbroken, TokenFault}
 use Rattle.spl_tree.specs.Program.{Program}
 use Rattle.spl_parser.specs.Derives.{Derives, SyntaxAt}
 use Rattle.spl_types.specs.Checks.{broken_rule}
-use Rattle.small_program.specs.Reading.{reading_of}
 use Rattle.interproc_top.specs.declared.cause.Rule.{Rule}
 use Rattle.interproc_top.specs.declared.cause.Rule.TheVariants as rule
 
@@ -40,9 +39,3 @@ pub record BreaksFirst (bytes : List ℕ) (rule : Rule) (place : Place) : Type 0
   pub breaks : BreaksAt bytes rule offset
   pub line : place.line ≡ line_of bytes offset
   pub column : place.column ≡ column_of bytes offset
-
--- the bytes are accepted, but they are no small program
-pub record IsLarge (bytes : List ℕ) : Type 0 where
-  pub program : Program
-  pub accepted : IsAccepted bytes program
-  pub not_small : reading_of program ≡ None

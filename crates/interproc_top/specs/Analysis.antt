@@ -1,39 +1,31 @@
--- The analysis of a small program: the value at a point is what the statements before it give, applied in order to the
--- value without bounds.
-use Rattle.std.specs.Prelude.{ℕ, List, fold, take, Option}
-use Rattle.std.specs.Option.{option_map}
-use Rattle.oct_def.specs.Octagon.{Octagon, top_value}
-use Rattle.spl_core.specs.Expression.{Number, Variable, Add}
-use Rattle.transfer_def.specs.Assign.{assign_value}
-use Rattle.small_program.specs.Reading.{Reading}
-use Rattle.small_program.specs.declared.statement.SmallStmt.{SmallStmt}
-use Rattle.small_program.specs.declared.statement.SmallStmt.TheVariants as stmt
-use Rattle.interproc_top.specs.Listed.{listed}
-use Rattle.interproc_top.specs.declared.constraint.Constraint.{Constraint}
+-- The analysis of an accepted program, and the report on it: full matrices, with the options of the call.
+use Rattle.std.specs.Prelude.{ℕ, false, List, if◌then◌else◌}
+use Rattle.oct_def.specs.Octagon.{Octagon}
+use Rattle.spl_tree.specs.Program.{Program}
+use Rattle.control_points.specs.CoreOf.{core_of}
+use Rattle.iteration.specs.Solved.{read_of, rounds_of}
+use Rattle.report.specs.Listed.{Note, note_of}
+use Rattle.report.specs.Report.{report, all_unreachable}
+use Rattle.interproc_top.specs.declared.analysis.Options.{Options}
+use Rattle.interproc_top.specs.declared.cause.Verdict.{Verdict}
+use Rattle.interproc_top.specs.declared.cause.Verdict.TheVariants.{AllUnreachable, SomeNotExcluded}
 
--- the value after a statement
-abbrev pub after : SmallStmt → Octagon → Octagon
-after stmt.Skip v = v
-after (stmt.Number x n) v = assign_value x (Number n) v
-after (stmt.Copy x y) v = assign_value x (Variable y) v
-after (stmt.Sum x y n) v = assign_value x (Add (Variable y) (Number n)) v
+-- where none is asked for: widening after one change, two rounds of the descent, and no implied constraints
+abbrev pub usual : Options
+usual = record { delay = 1; descend = 2; full = false }
 
--- the value after one more statement
-abbrev pub then_after : Octagon → SmallStmt → Octagon
-then_after v s = after s v
+-- the value that is read at a point of the program's core in the end
+abbrev pub found : Options → Program → ℕ → Octagon
+found o p = read_of (core_of p) o.delay o.descend
 
--- the value behind the first k statements
-unfoldable pub value_after : Reading → ℕ → Octagon
-value_after r k = fold then_after (top_value r.variables) (take k r.statements)
+-- what the report says at a point: its constraints; none where Bottom is found
+abbrev pub said : Options → Program → ℕ → Note
+said o p k = note_of o.full (found o p k)
 
--- what is said at a point: its constraints; none, where no run comes there
-abbrev pub Note : Type 0
-Note = Option (List Constraint)
+-- the report on the program that was read from these bytes
+abbrev pub report_on : Options → List ℕ → Program → List ℕ
+report_on o bytes p = report bytes o.full (found o p) (rounds_of (core_of p) o.delay) p
 
--- what is said of a value
-abbrev pub note_of : Octagon → Note
-note_of v = option_map (listed v.dims) v.matrix
-
--- what is said behind the first k statements
-abbrev pub note_after : Reading → ℕ → Note
-note_after r k = note_of (value_after r k)
+-- what it says of the fails
+abbrev pub verdict_on : Options → Program → Verdict
+verdict_on o p = if all_unreachable (found o p) p then AllUnreachable else SomeNotExcluded

@@ -7,17 +7,17 @@ use Rattle.spl_io.specs.Sink.{GrewByFront}
 use Rattle.spl_io.specs.Store.{Store, Told, Lacks, Has, IsLong, most_bytes}
 use Rattle.spl_text.specs.declared.place.Place.{Place}
 use Rattle.spl_tree.specs.Program.{Program}
-use Rattle.small_program.specs.Reading.{Reading, reading_of}
-use Rattle.interproc_top.specs.Accepted.{IsAccepted, BreaksAt, BreaksFirst, IsLarge}
-use Rattle.interproc_top.specs.Cause.{status_of, line_of}
+use Rattle.interproc_top.specs.Accepted.{IsAccepted, BreaksAt, BreaksFirst}
+use Rattle.interproc_top.specs.Analysis.{usual, report_on, verdict_on}
+use Rattle.interproc_top.specs.Cause.{status_by, status_of, line_of}
 use Rattle.interproc_top.specs.Command.{NamesFile, NamesAFile}
-use Rattle.interproc_top.specs.Report.{report}
 use Rattle.interproc_top.specs.Reported.{IsReportOf}
 use Rattle.interproc_top.specs.declared.cause.Cause.{Cause}
 use Rattle.interproc_top.specs.declared.cause.Cause.TheVariants as cause
 use Rattle.interproc_top.specs.declared.cause.Rule.{Rule}
 use Rattle.interproc_top.specs.declared.cause.Status.{Status}
 use Rattle.interproc_top.specs.declared.cause.Status.TheVariants as status
+use Rattle.interproc_top.specs.declared.cause.Verdict.{Verdict}
 
 -- the words, the files as they were told, the counts of faults before the call and after it, and what the output held
 pub record Call : Type 0 where
@@ -39,11 +39,11 @@ pub record IsRead (call : Call) (bytes : List ℕ) : Type 0 where
   pub has : Has call.files name bytes
   pub short : length bytes ≤ most_bytes
 
--- the text is the report of the file that the words name, and what it says holds of every run of that program
-pub record IsReport (call : Call) (text : List ℕ) : Type 0 where
+-- the text is the report on the file that the words name, and this is what it says of the fails
+pub record IsReport (call : Call) (text : List ℕ) (verdict : Verdict) : Type 0 where
   pub bytes : List ℕ
   pub read : IsRead call bytes
-  pub report : IsReportOf bytes text
+  pub report : IsReportOf usual bytes text verdict
 
 -- nothing was written
 abbrev pub WritesNothing : Call → Type 0
@@ -84,17 +84,11 @@ pub record IsBroken (call : Call) (rule : Rule) (place : Place) : Type 0 where
   pub broken : BreaksFirst bytes rule place
   pub writes_nothing : WritesNothing call
 
--- the file is a program that breaks no rule, but no small one
-pub record IsNotYet (call : Call) : Type 0 where
-  pub bytes : List ℕ
-  pub read : IsRead call bytes
-  pub large : IsLarge bytes
-  pub writes_nothing : WritesNothing call
-
 -- a write of the report failed, and a part of it stands there
 pub record IsUnwritten (call : Call) : Type 0 where
   pub text : List ℕ
-  pub report : IsReport call text
+  pub verdict : Verdict
+  pub report : IsReport call text verdict
   pub cause : Rose call.write_before call.write_now
   pub gone : ℕ
   pub some_left : gone < length text
@@ -111,26 +105,25 @@ Explains cause.CannotOpen call = IsUnopened call
 Explains cause.ReadFault call = IsUnread call
 Explains cause.TooLong call = IsTooLong call
 Explains (cause.Broken rule place) call = IsBroken call rule place
-Explains cause.NotYet call = IsNotYet call
 Explains cause.WriteFault call = IsUnwritten call
 Explains cause.NoMemory call = IsOutOfMemory call
 
--- the whole report of the named file was written
-pub record IsWritten (call : Call) : Type 0 where
+-- the whole report on the named file was written
+pub record IsWritten (call : Call) (verdict : Verdict) : Type 0 where
   pub text : List ℕ
-  pub report : IsReport call text
+  pub report : IsReport call text verdict
   pub whole : Appends call.out_before call.out_now text
 
--- the end of a call: the whole report, or what ended it before
+-- the end of a call: the whole report, with what it says of the fails, or what ended it before
 abbrev pub End : Type 0
-End = Result (Unit {0}) Cause
+End = Result Verdict Cause
 
 abbrev pub Ends : End → Call → Type 0
-Ends (Ok _) call = IsWritten call
+Ends (Ok verdict) call = IsWritten call verdict
 Ends (Err cause) call = Explains cause call
 
 abbrev pub status_at : End → Status
-status_at (Ok _) = status.Proved
+status_at (Ok verdict) = status_by verdict
 status_at (Err cause) = status_of cause
 
 -- ---- what must come where the outside is fair; want of memory alone is free
@@ -150,14 +143,13 @@ abbrev pub Answers : Status → Status → Type 0
 Answers answer wanted = (answer ≡ wanted) ⊎ (answer ≡ status.NoMemory)
 
 pub record Completes (answer : Status) (call : Call) : Type 0 where
-  -- a small program gets its whole report
-  pub proved : (bytes : List ℕ) (p : Program) (r : Reading) → IsFair call bytes → (Rose call.write_before call.write_now → ⊥)
-      → length bytes ≤ most_bytes → IsAccepted bytes p → reading_of p ≡ Some r
-      → ((answer ≡ status.Proved) × Appends call.out_before call.out_now (report bytes p r)) ⊎ (answer ≡ status.NoMemory)
+  -- an accepted program gets its whole report
+  pub written : (bytes : List ℕ) (p : Program) → IsFair call bytes → (Rose call.write_before call.write_now → ⊥)
+      → length bytes ≤ most_bytes → IsAccepted bytes p
+      → ((answer ≡ status_by (verdict_on usual p)) × Appends call.out_before call.out_now (report_on usual bytes p)) ⊎ (answer ≡ status.NoMemory)
   -- any other file is refused
   pub long : (bytes : List ℕ) → IsFair call bytes → most_bytes < length bytes → Answers answer status.Refused
   pub broken : (bytes : List ℕ) (rule : Rule) (at : ℕ) → IsFair call bytes → length bytes ≤ most_bytes → BreaksAt bytes rule at → Answers answer status.Refused
-  pub not_small : (bytes : List ℕ) → IsFair call bytes → length bytes ≤ most_bytes → IsLarge bytes → Answers answer status.Refused
   -- words of no form are refused as such, and no others
   pub no_form : (NamesAFile call.words → ⊥) → answer ≡ status.Usage
   pub form : answer ≡ status.Usage → NamesAFile call.words → ⊥
@@ -170,5 +162,5 @@ Tells faults_before faults_now before now line =
     Appends before now line ⊎ (Rose faults_before faults_now × ((gone : ℕ) × (gone < length line) × GrewByFront before now line gone))
 
 abbrev pub Says : End → (faults_before faults_now : ℕ) → (before now : Option (List ℕ)) → Type 0
-Says (Ok _) faults_before faults_now before now = Keeps before now
+Says (Ok verdict) faults_before faults_now before now = Keeps before now
 Says (Err cause) faults_before faults_now before now = Tells faults_before faults_now before now (line_of cause)

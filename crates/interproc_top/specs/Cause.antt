@@ -10,6 +10,8 @@ use Rattle.interproc_top.specs.declared.cause.Cause.TheVariants as cause
 use Rattle.interproc_top.specs.declared.cause.Rule.{Rule}
 use Rattle.interproc_top.specs.declared.cause.Rule.TheVariants as rule
 use Rattle.interproc_top.specs.declared.cause.Status.{Status}
+use Rattle.interproc_top.specs.declared.cause.Verdict.{Verdict}
+use Rattle.interproc_top.specs.declared.cause.Verdict.TheVariants as verdict
 use Rattle.interproc_top.specs.declared.cause.Status.TheVariants as status
 
 -- the status of the process
@@ -21,13 +23,17 @@ number_of status.Refused = 3
 number_of status.Outside = 4
 number_of status.NoMemory = 5
 
+-- what the report says of the fails
+abbrev pub status_by : Verdict → Status
+status_by verdict.AllUnreachable = status.Proved
+status_by verdict.SomeNotExcluded = status.Open
+
 abbrev pub status_of : Cause → Status
 status_of cause.Usage = status.Usage
 status_of cause.CannotOpen = status.Outside
 status_of cause.ReadFault = status.Outside
 status_of cause.TooLong = status.Refused
 status_of (cause.Broken rule place) = status.Refused
-status_of cause.NotYet = status.Refused
 status_of cause.WriteFault = status.Outside
 status_of cause.NoMemory = status.NoMemory
 
@@ -70,6 +76,5 @@ line_of cause.CannotOpen = codes "fault: CannotOpen\n"
 line_of cause.ReadFault = codes "fault: ReadFault\n"
 line_of cause.TooLong = codes "refused: TooLong\n"
 line_of (cause.Broken rule place) = broken_line rule place
-line_of cause.NotYet = codes "refused: NotYet\n"
 line_of cause.WriteFault = codes "fault: WriteFault\n"
 line_of cause.NoMemory = codes "out of memory\n"

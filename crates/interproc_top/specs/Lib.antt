@@ -3,12 +3,5 @@ pub mod Analysis
 pub mod Call
 pub mod Cause
 pub mod Command
-pub mod Constraint
-pub mod ConstraintText
-pub mod Listed
-pub mod Names
-pub mod Readable
-pub mod Report
+pub mod Headline
 pub mod Reported
-pub mod Runs
-pub mod Sound

@@ -1,21 +1,28 @@
 -- What is answered of a file by its bytes: a report, or what stands against one.
-use Rattle.std.specs.Prelude.{◌≡◌, ℕ, List, Some}
+use Rattle.std.specs.Prelude.{◌≡◌, ℕ, List}
 use Rattle.spl_tree.specs.Program.{Program}
-use Rattle.small_program.specs.Reading.{Reading, reading_of}
-use Rattle.interproc_top.specs.Accepted.{IsAccepted, BreaksFirst, IsLarge}
-use Rattle.interproc_top.specs.Report.{report}
-use Rattle.interproc_top.specs.Sound.{IsSound}
+use Rattle.read_back.specs.ReadsBack.{ReadsAs}
+use Rattle.interproc_top.specs.Accepted.{IsAccepted, BreaksFirst}
+use Rattle.interproc_top.specs.Analysis.{report_on, verdict_on}
+use Rattle.interproc_top.specs.Headline.{Holds, UnreachableHolds, NoFailIsReached}
+use Rattle.interproc_top.specs.declared.analysis.Options.{Options}
 use Rattle.interproc_top.specs.declared.cause.Cause.{Cause}
 use Rattle.interproc_top.specs.declared.cause.Cause.TheVariants as cause
+use Rattle.interproc_top.specs.declared.cause.Verdict.{Verdict}
+use Rattle.interproc_top.specs.declared.cause.Verdict.TheVariants.{AllUnreachable}
 
--- the text is the report of the program that the bytes are, and what it says holds of every run of that program
-pub record IsReportOf (bytes text : List ℕ) : Type 0 where
+-- with these options the text is the report on the program that the bytes are, and this is what it says of the fails
+pub record IsReportOf (o : Options) (bytes text : List ℕ) (verdict : Verdict) : Type 0 where
   pub program : Program
   pub accepted : IsAccepted bytes program
-  pub reading : Reading
-  pub small : reading_of program ≡ Some reading
-  pub is : text ≡ report bytes program reading
-  pub sound : IsSound reading
+  pub written : text ≡ report_on o bytes program
+  pub decided : verdict ≡ verdict_on o program
+  -- it holds of all runs
+  pub holds : Holds o program
+  pub unreachable : UnreachableHolds o program
+  pub proved : verdict ≡ AllUnreachable → NoFailIsReached program
+  -- it can be read again as the same program
+  pub reads_back : ReadsAs text program
 
 -- what stands against a report, by its cause; want of memory says nothing
 abbrev pub Refuses : List ℕ → Cause → Type 0
@@ -24,6 +31,5 @@ Refuses bytes cause.CannotOpen = ⊥
 Refuses bytes cause.ReadFault = ⊥
 Refuses bytes cause.TooLong = ⊥
 Refuses bytes (cause.Broken rule place) = BreaksFirst bytes rule place
-Refuses bytes cause.NotYet = IsLarge bytes
 Refuses bytes cause.WriteFault = ⊥
 Refuses bytes cause.NoMemory = Unit {0}

@@ -1,7 +1,7 @@
 //! What ends a call, and the status and the line that tell of it.
 ghost use Rattle.std.specs.Prelude.{◌≡◌, ◌++◌, ◌+◌, ◌≤◌, length, decimal};
 ghost use Rattle.arrayvec.specs.ArrayString.{array_string_len};
-ghost use Rattle.interproc_top.specs.Cause.{status_of, line_of, number_of, rule_name, text_rule_name, check_rule_name, broken_line};
+ghost use Rattle.interproc_top.specs.Cause.{status_by, status_of, line_of, number_of, rule_name, text_rule_name, check_rule_name, broken_line};
 
 use arrayvec::ArrayString;
 use itoa::Buffer;
@@ -37,6 +37,26 @@ impl Status {
             Status::Refused => 3,
             Status::Outside => 4,
             Status::NoMemory => 5,
+        }
+    }
+}
+
+/// What a report says of the `fail`s of its program.
+#[derive(Clone, Copy, Debug, Drop, PartialEq, Eq)]
+pub enum Verdict {
+    /// No run comes to any of them.
+    AllUnreachable,
+    /// For some of them this was not shown.
+    SomeNotExcluded,
+}
+
+impl Verdict {
+    pub fn status(self) -> Status
+        ensures { result ≡ status_by self }
+    {
+        match self {
+            Verdict::AllUnreachable => Status::Proved,
+            Verdict::SomeNotExcluded => Status::Open,
         }
     }
 }
@@ -104,7 +124,6 @@ pub enum Cause {
     ReadFault,
     TooLong,
     Broken(Rule, Place),
-    NotYet,
     WriteFault,
     NoMemory,
 }
@@ -115,7 +134,7 @@ impl Cause {
     {
         match self {
             Cause::Usage => Status::Usage,
-            Cause::TooLong | Cause::Broken(..) | Cause::NotYet => Status::Refused,
+            Cause::TooLong | Cause::Broken(..) => Status::Refused,
             Cause::CannotOpen | Cause::ReadFault | Cause::WriteFault => Status::Outside,
             Cause::NoMemory => Status::NoMemory,
         }
@@ -133,7 +152,6 @@ impl Cause {
             Cause::ReadFault => fixed("fault: ReadFault\n"),
             Cause::TooLong => fixed("refused: TooLong\n"),
             Cause::Broken(rule, place) => broken(rule, place),
-            Cause::NotYet => fixed("refused: NotYet\n"),
             Cause::WriteFault => fixed("fault: WriteFault\n"),
             Cause::NoMemory => fixed("out of memory\n"),
         }

@@ -1,37 +1,33 @@
 //! The stages from the bytes of a file to its report: tokens, grammar, checks, and the analysis.
-ghost use Rattle.std.specs.Prelude.{◌≡◌, ◌≤◌, ◌^◌, Some, length, IfOk, IfErr};
+ghost use Rattle.std.specs.Prelude.{◌≤◌, ◌^◌, length, IfOk, IfErr};
 ghost use Rattle.spl_text.specs.Pieces.{Cut};
 ghost use Rattle.spl_text.specs.TextRules.{IsUnbroken};
 ghost use Rattle.spl_tree.specs.Meaning.{program_of};
 ghost use Rattle.spl_parser.specs.Derives.{Derives};
 ghost use Rattle.interproc_top.specs.Accepted.{IsTokenized, IsParsed, IsAccepted, BreaksAt};
 ghost use Rattle.interproc_top.specs.Reported.{IsReportOf, Refuses};
-ghost use Rattle.small_program.specs.Reading.{reading_of};
 
+use crate::analysis::{Options, Report, analysed};
 use crate::cause::{Cause, Rule};
-use crate::laws::law_reports;
-use crate::report::report_text;
-use small_program::{Small, SmallFault, small};
 use spl_parser::{ParseFault, parse};
 use spl_text::{TextFault, Tokens, place_of, tokens};
 use spl_tree::Tree;
 use spl_types::{CheckFault, Checked, check};
 use std::alloc::Global;
 
-/// The report of a program by its bytes, or the first thing that stands against it: a broken rule, a program that isn't
-/// analysed yet, or want of memory.
-pub fn report_of(alloc: Global, bytes: &[u8]) -> Result<Vec<u8>, Cause>
+/// The report on a program by its bytes, or the first thing that stands against it: a broken rule, or want of memory.
+pub fn report_of(alloc: Global, bytes: &[u8], options: Options) -> Result<Report, Cause>
     requires short { length bytes.now ≤ 2 ^ 20 }
-    ensures report { IfOk result (λ text. IsReportOf bytes.now text.items) }
+    requires delay { options.delay ≤ 1000 }
+    requires descend { options.descend ≤ 1000 }
+    ensures report { IfOk result (λ report. IsReportOf options bytes.now report.text.items report.verdict) }
     ensures refused { IfErr result (Refuses bytes.now) }
 {
     let tokens = tokens_of(alloc, bytes)?;
     let tree = tree_of(alloc, bytes, &tokens)?;
     let checked = checked_of(alloc, bytes, &tree)?;
-    let program = small_of(alloc, bytes, &checked)?;
-    law_reports();
-    match report_text(alloc, bytes, &checked, &program) {
-        Ok(text) => Ok(text),
+    match analysed(alloc, bytes, &checked, options) {
+        Ok(report) => Ok(report),
         Err(_) => Err(Cause::NoMemory),
     }
 }
@@ -74,19 +70,6 @@ fn checked_of<'t>(alloc: Global, bytes: &[u8], tree: &'t Tree) -> Result<Checked
         Ok(checked) => Ok(checked),
         Err(CheckFault::Broken(rule, offset)) => Err(broken_at(bytes, Rule::Check(rule), offset)),
         Err(CheckFault::NoMemory) => Err(Cause::NoMemory),
-    }
-}
-
-/// What the program says, once it's small.
-fn small_of(alloc: Global, bytes: &[u8], checked: &Checked) -> Result<Small, Cause>
-    requires accepted { IsAccepted bytes.now (program_of checked.now) }
-    ensures small { IfOk result (λ small. reading_of (program_of checked.now) ≡ Some small) }
-    ensures refused { IfErr result (Refuses bytes.now) }
-{
-    match small(alloc, checked.tree()) {
-        Ok(program) => Ok(program),
-        Err(SmallFault::NotYet) => Err(Cause::NotYet),
-        Err(SmallFault::NoMemory) => Err(Cause::NoMemory),
     }
 }
 

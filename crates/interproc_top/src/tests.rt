@@ -112,8 +112,8 @@ fn reports(rt: HostRuntime) -> Result<(), Fail> {
     Ok(())
 }
 
-/// Files that break a rule, each with the line that tells of it; then accepted ones that aren't analysed yet.
-const REFUSED: [(&[u8], &[u8]); 41] = [
+/// Files that break a rule, each with the line that tells of it.
+const REFUSED: [(&[u8], &[u8]); 29] = [
     (b"begin @ end", b"refused: BadByte at L1 C7\n"),
     (b"begin /* x", b"refused: OpenComment at L1 C7\n"),
     (
@@ -212,25 +212,35 @@ const REFUSED: [(&[u8], &[u8]); 41] = [
         b"proc f() returns () begin () = g(); end proc g() returns () begin end begin y = 1; end",
         b"refused: UnknownVariable at L1 C77\n",
     ),
-    (b"var x:int; begin halt; end", b"refused: NotYet\n"),
-    (b"var x:int; begin fail; end", b"refused: NotYet\n"),
-    (b"var x:int; begin assume x > 0; end", b"refused: NotYet\n"),
-    (b"var x:int; begin x = random; end", b"refused: NotYet\n"),
-    (b"var x:int; begin x = -1; end", b"refused: NotYet\n"),
-    (b"var x:int; begin x = x - 1; end", b"refused: NotYet\n"),
-    (b"var x:int; begin x = 1 + x; end", b"refused: NotYet\n"),
-    (b"var x:int; begin x = x + x; end", b"refused: NotYet\n"),
-    (b"begin if true then endif end", b"refused: NotYet\n"),
-    (b"begin while random do done end", b"refused: NotYet\n"),
+];
+
+/// Programs with a loop, with fails, and with a procedure, each with its status and its report.
+const WORKED: [(&[u8], u8, &[u8]); 3] = [
     (
-        b"proc f() returns () begin end begin end",
-        b"refused: NotYet\n",
+        b"var i:int;\nbegin\ni = 0;\nwhile i < 10 do\ni = i + 1;\ndone;\nend\n",
+        0,
+        b"var i:int;\nbegin\n  /* (L2 C6) top */\n  i = 0;\n  /* (L3 C7) [|i>=0; -i+10>=0|] */\n  while i < 10 do\n    /* (L4 C16) [|i>=0; -i+9>=0|] */\n    i = i + 1;\n    /* (L5 C11) [|i-1>=0; -i+10>=0|] */\n  done;\n  /* (L6 C6) [|i-10=0|] */\nend\n/* rounds: 3 */\n",
     ),
     (
-        b"proc f(a:int) returns (r:int) begin r = a; end var x:int; begin x = f(x); end",
-        b"refused: NotYet\n",
+        b"var x:int;\nbegin\nif x > 0 then\nassume false;\nfail;\nendif;\nfail;\nend\n",
+        1,
+        b"var x:int;\nbegin\n  /* (L2 C6) top */\n  if x > 0 then\n    /* (L3 C14) [|x-1>=0|] */\n    assume false;\n    /* (L4 C14) bottom */\n    fail;\n    /* (L5 C6) bottom */\n  endif;\n  /* (L6 C7) [|-x>=0|] */\n  fail;\n  /* (L7 C6) bottom */\nend\n/* fail (L5 C1): unreachable */\n/* fail (L7 C1): not excluded */\n/* rounds: 2 */\n",
+    ),
+    (
+        b"proc inc(n:int) returns (r:int)\nbegin\nn = n + 1;\nr = n;\nend\nvar a:int, b:int;\nbegin\nb = inc(a);\nend\n",
+        0,
+        b"proc inc(n:int) returns (r:int)\nbegin\n  /* (L2 C6) [|-n@+n=0|] */\n  n = n + 1;\n  /* (L3 C11) [|-n@+n-1=0|] */\n  r = n;\n  /* (L4 C7) [|-n@+r-1=0; -n@+n-1=0; -r+n=0|] */\nend\nvar a:int, b:int;\nbegin\n  /* (L7 C6) top */\n  b = inc(a);\n  /* (L8 C12) [|-a+b-1=0|] */\nend\n/* rounds: 3 */\n",
     ),
 ];
+
+#[test]
+fn worked_reports(rt: HostRuntime) -> Result<(), Fail> {
+    for (text, status, report) in WORKED {
+        let o = with_file(rt.alloc(), b"f", text)?;
+        expect(&rt, rt.alloc(), o, status, report, b"")?;
+    }
+    Ok(())
+}
 
 #[test]
 fn refusals(rt: HostRuntime) -> Result<(), Fail> {
@@ -357,8 +367,8 @@ const NUMBERED: [(&str, &str, &str, u32, &str, u8, &str); 6] = [
         "() returns () begin end ",
         256,
         "begin end",
-        3,
-        "refused: NotYet\n",
+        0,
+        "",
     ),
     (
         "",
@@ -375,8 +385,8 @@ const NUMBERED: [(&str, &str, &str, u32, &str, u8, &str); 6] = [
         ":int",
         126,
         ") returns () begin a = 1; end begin end",
-        3,
-        "refused: NotYet\n",
+        0,
+        "",
     ),
     (
         "proc f(a:int",
@@ -416,13 +426,13 @@ fn fronts_of_a_file(rt: HostRuntime) -> Result<(), Fail> {
             mut err,
         } = o;
         let status = run(rt.alloc(), &words, &mut files, &mut out, &mut err);
-        assert_eq!(rt; status.number(), 3);
-        let line: &[u8] = if front < 60 {
-            b"refused: Syntax at L"
+        let wanted: (u8, &[u8]) = if front < 60 {
+            (3, b"refused: Syntax at L")
         } else {
-            b"refused: NotYet\n"
+            (0, b"")
         };
-        assert!(rt; err.bytes().starts_with(line), "after {front} bytes");
+        assert_eq!(rt; status.number(), wanted.0);
+        assert!(rt; err.bytes().starts_with(wanted.1), "after {front} bytes");
     }
     Ok(())
 }

@@ -3,7 +3,8 @@ ghost use Rattle.std.specs.Prelude.{◌≡◌, Err};
 ghost use Rattle.interproc_top.specs.Call.{Completes, End, Ends, Says, Tells, status_at};
 ghost use Rattle.interproc_top.specs.Cause.{line_of};
 
-use crate::cause::{Cause, Status};
+use crate::analysis::{Options, Report};
+use crate::cause::{Cause, Status, Verdict};
 use crate::command::names_a_file;
 use crate::stages::report_of;
 use spl_io::{Files, ReadAllError, Sink, Words, read_all, write_all};
@@ -55,7 +56,7 @@ pub fn run<F: Files, O: Sink, E: Sink>(
     law_one_cut_or_fault();
     law_one_tree();
     match work(alloc, words, files, out) {
-        Ok(()) => Status::Proved,
+        Ok(verdict) => verdict.status(),
         Err(cause) => {
             tell(err, cause);
             cause.status()
@@ -69,7 +70,7 @@ fn work<F: Files, O: Sink>(
     words: &Words,
     files: &mut F,
     out: &mut O,
-) -> Result<(), Cause>
+) -> Result<Verdict, Cause>
     ensures ends { Ends result (record {
       words = words.now;
       files = F.files files.old;
@@ -95,12 +96,12 @@ fn work<F: Files, O: Sink>(
         Err(ReadAllError::TooLong) => return Err(Cause::TooLong),
         Err(ReadAllError::NoMemory) => return Err(Cause::NoMemory),
     };
-    let text = match report_of(alloc, &bytes) {
-        Ok(text) => text,
+    let Report { text, verdict } = match report_of(alloc, &bytes, Options::usual()) {
+        Ok(report) => report,
         Err(cause) => return Err(cause),
     };
     match write_all(out, &text) {
-        Ok(()) => Ok(()),
+        Ok(()) => Ok(verdict),
         Err(_) => Err(Cause::WriteFault),
     }
 }

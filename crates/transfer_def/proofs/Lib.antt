@@ -3,12 +3,7 @@ pub mod States
 pub mod Dimensions
 pub mod Sound
 pub mod Values
-pub mod Pairs
-pub mod Links
-pub mod Exact
-pub mod Expressions
 pub mod Worked
-pub mod Entries
 pub mod Tests
 pub mod Moves
 pub mod Enter

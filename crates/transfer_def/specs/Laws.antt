@@ -1,21 +1,16 @@
 -- What the moves of a core, calls and returns promise on values.
-use Rattle.std.specs.Prelude.{◌≡◌, ℕ, ◌+◌, ◌*◌, ◌<◌, ◌≤◌, List, length, take, drop, slice_set, Some, pos, neg_ℤ, ◌≤ℤ◌}
+use Rattle.std.specs.Prelude.{◌≡◌, ℕ, ◌+◌, ◌<◌, ◌≤◌, List, length, take, drop}
 use Rattle.std.specs.List.{All}
-use Rattle.oct_def.specs.Bound.{top_limit}
-use Rattle.oct_def.specs.Table.{Matrix, table}
-use Rattle.oct_def.specs.Matrix.{IsMatrix}
 use Rattle.oct_def.specs.Octagon.{Octagon, MeetsOctagon, IsOctagon, bottom_value}
 use Rattle.spl_core.specs.declared.parts.Proc.{Proc}
-use Rattle.spl_core.specs.Expression.{Expression, Number, Variable, Neg, Add, Sub, State, eval, IsOver}
+use Rattle.spl_core.specs.Expression.{State}
 use Rattle.spl_core.specs.Facts.{AreDistinct}
 use Rattle.spl_core.specs.Graph.{Move}
 use Rattle.spl_core.specs.GraphFacts.{MoveFits}
 use Rattle.spl_runs.specs.Runs.{Flow, values_of, with_values}
-use Rattle.transfer_def.specs.Assign.{equated, assign_value}
 use Rattle.transfer_def.specs.Move.{move_value, IsMoveOver}
 use Rattle.transfer_def.specs.Enter.{enter_value}
 use Rattle.transfer_def.specs.Back.{back_value}
-use Rattle.transfer_def.specs.Special.{constant_entry, offset_entry}
 
 -- where a state meets a value and flows by a move, its successor meets the value after the move
 abbrev pub StepIsSound : Type 0
@@ -93,57 +88,3 @@ abbrev pub BackOfBottomExit : Type 0
 BackOfBottomExit =
     (caller : Octagon) (n : ℕ) (args : List ℕ) (outputs : ℕ) (targets : List ℕ)
     → back_value caller (bottom_value n) args outputs targets ≡ bottom_value caller.dims
-
--- ---- one assignment
-
--- where a state meets a value, the state with x set to the expression's value meets the value after `x := e`
-abbrev pub AssignmentIsSound : Type 0
-AssignmentIsSound =
-    (x : ℕ) (e : Expression) (v : Octagon) (s : State)
-    → length s ≡ v.dims
-    → x < v.dims
-    → IsOver v.dims e
-    → MeetsOctagon s v
-    → MeetsOctagon (slice_set s x (eval e s)) (assign_value x e v)
-
--- an assignment gives a value where it is given one
-abbrev pub AssignmentIsValue : Type 0
-AssignmentIsValue = (x : ℕ) (e : Expression) (v : Octagon) → IsOctagon v → IsOctagon (assign_value x e v)
-
--- ---- special assignments: the matrix with a new variable that equals the expression, entry by entry
-
--- a constant that is no greater than the greatest bound, and minus that
-abbrev pub ConstantIsExact : Type 0
-ConstantIsExact =
-    (n c : ℕ) (m : Matrix) → pos c ≤ℤ top_limit → equated n (Number c) m ≡ Some (table (2 * (n + 1)) (constant_entry n (pos c) m))
-
-abbrev pub NegativeIsExact : Type 0
-NegativeIsExact =
-    (n c : ℕ) (m : Matrix)
-    → pos c ≤ℤ top_limit
-    → equated n (Neg (Number c)) m ≡ Some (table (2 * (n + 1)) (constant_entry n (neg_ℤ (pos c)) m))
-
--- a variable
-abbrev pub VariableIsExact : Type 0
-VariableIsExact =
-    (n y : ℕ) (m : Matrix)
-    → y < n
-    → IsMatrix n m
-    → equated n (Variable y) m ≡ Some (table (2 * (n + 1)) (offset_entry n y (pos 0) m))
-
--- a variable plus such a constant, and minus such a constant
-abbrev pub SumIsExact : Type 0
-SumIsExact =
-    (n y c : ℕ) (m : Matrix)
-    → y < n
-    → pos c ≤ℤ top_limit
-    → IsMatrix n m
-    → equated n (Add (Variable y) (Number c)) m ≡ Some (table (2 * (n + 1)) (offset_entry n y (pos c) m))
-
-abbrev pub DifferenceIsExact : Type 0
-DifferenceIsExact =
-    (n y c : ℕ) (m : Matrix)
-    → y < n
-    → pos c ≤ℤ top_limit
-    → IsMatrix n m
-    → equated n (Sub (Variable y) (Number c)) m ≡ Some (table (2 * (n + 1)) (offset_entry n y (neg_ℤ (pos c)) m))

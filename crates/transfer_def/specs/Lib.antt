@@ -5,7 +5,6 @@ pub mod Test
 pub mod Move
 pub mod Enter
 pub mod Back
-pub mod Special
 pub mod Laws
 pub mod Examples
 pub mod TestExamples

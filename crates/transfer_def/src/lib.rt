@@ -6,7 +6,7 @@
 ghost use Rattle.transfer_def.specs.CallExamples.{CallExamples};
 ghost use Rattle.transfer_def.specs.Examples.{AssignExamples};
 ghost use Rattle.transfer_def.specs.TestExamples.{LatticeExamples, TestExamples};
-ghost use Rattle.transfer_def.specs.Laws.{AssignmentIsSound, AssignmentIsValue, BackGivesValue, BackIsSound, BackOfBottomCaller, BackOfBottomExit, ConstantIsExact, DifferenceIsExact, EnterGivesValue, EnterIsSound, EnterOfBottom, MoveGivesValue, MoveKeepsDims, MoveOfBottom, MovesAreOver, NegativeIsExact, StepIsSound, SumIsExact, VariableIsExact};
+ghost use Rattle.transfer_def.specs.Laws.{BackGivesValue, BackIsSound, BackOfBottomCaller, BackOfBottomExit, EnterGivesValue, EnterIsSound, EnterOfBottom, MoveGivesValue, MoveKeepsDims, MoveOfBottom, MovesAreOver, StepIsSound};
 
 pub use interval_form::{law_bounds, law_linearise};
 pub use oct_def::{law_lattice, law_tight};
@@ -34,7 +34,6 @@ pub fn law_values()
     ensures dims { MoveKeepsDims }
     ensures enter { EnterGivesValue }
     ensures back { BackGivesValue }
-    ensures assigned { AssignmentIsValue }
 {}
 
 /// Law: of Bottom comes Bottom.
@@ -43,22 +42,6 @@ pub fn law_bottom()
     ensures enter { EnterOfBottom }
     ensures caller { BackOfBottomCaller }
     ensures exit { BackOfBottomExit }
-{}
-
-/// Law: where a state meets a value, its successor by an assignment meets the value after the assignment.
-pub fn law_assign()
-    ensures assigned { AssignmentIsSound }
-{}
-
-/// Law: the matrix with a new variable that equals a constant, a variable, or a variable plus or minus a constant, entry by
-/// entry. An assignment of such an expression is the tight closure of this matrix with the new variable in the target's
-/// place, so a program needs no form for it.
-pub fn law_special()
-    ensures constant { ConstantIsExact }
-    ensures negative { NegativeIsExact }
-    ensures variable { VariableIsExact }
-    ensures sum { SumIsExact }
-    ensures difference { DifferenceIsExact }
 {}
 
 /// Worked assignments, tests, joins, widenings, narrowings, calls and returns, with the matrices that they give.

@@ -1,4 +1,3 @@
-use Rattle.transfer_def.proofs.Values.{value-assign_value}
 use Rattle.transfer_def.proofs.Moves.{value-move_value, dims-move_value}
 use Rattle.transfer_def.proofs.Enter.{value-enter_value}
 use Rattle.transfer_def.proofs.Back.{value-back_value}
@@ -15,6 +14,3 @@ returns-clause-enter c = value-enter_value
 
 pub returns-clause-back : goal.returns-clause-back
 returns-clause-back c = value-back_value
-
-pub returns-clause-assigned : goal.returns-clause-assigned
-returns-clause-assigned c = value-assign_value

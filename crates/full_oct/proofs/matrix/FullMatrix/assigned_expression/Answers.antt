@@ -1,4 +1,3 @@
-use Rattle.std.proofs.Common.{◌≡◌, ◌∙◌, length, sym, ap}
 use Rattle.spl_core.specs.Graph.{expr_at, exprs_in}
 use Rattle.full_oct.proofs.Forming.{over-ranges, form-over, assigned-is}
 use Rattle.full_oct.proofs.matrix.FullMatrix.assigned_expression.Goals as goal

@@ -1,4 +1,4 @@
-use Rattle.std.proofs.Common.{◌≡◌, ◌∙◌, length, sym, ap}
+use Rattle.std.proofs.Common.{◌∙◌, sym}
 use Rattle.interval_form.specs.Sparse.{form_in}
 use Rattle.full_oct.proofs.Forming.{length-equated, moved-none, moved-some}
 use Rattle.full_oct.proofs.matrix.FullMatrix.assigned_form.Goals as goal

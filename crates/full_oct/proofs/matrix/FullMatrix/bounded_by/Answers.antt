@@ -1,4 +1,4 @@
-use Rattle.std.proofs.Common.{◌≡◌, ◌∙◌, length, ap, subst}
+use Rattle.std.proofs.Common.{◌∙◌, length, ap, subst}
 use Rattle.interval_form.specs.Sparse.{form_in}
 use Rattle.interval_form.specs.Listed.{AreBounds}
 use Rattle.full_oct.specs.Taken.{taken}

@@ -1,4 +1,4 @@
-use Rattle.std.proofs.Common.{◌≡◌, ◌∙◌, length, sym, ap, Some, None}
+use Rattle.std.proofs.Common.{◌∙◌, length, sym, ap}
 use Rattle.std.specs.Option.{option_and_then}
 use Rattle.interval_form.specs.Sparse.{form_in}
 use Rattle.interval_form.specs.FormBounds.{bounded}

@@ -5,7 +5,7 @@ use Rattle.std.proofs.lemmas.Int.{to_z-of_z}
 use Rattle.oct_def.specs.Bound.{bound_of}
 use Rattle.oct_def.specs.Table.{at}
 use Rattle.transfer_def.specs.Enter.{argument_dimension}
-use Rattle.full_oct.proofs.Equations.{both_below}
+use Rattle.full_oct.proofs.Adding.{both_below}
 use Rattle.full_oct.proofs.Entering.{enter_entry-same, enter_entry-inputs, enter_entry-none, argument_dimension-below}
 use Rattle.full_oct.proofs.matrix.FullMatrix.entered_word.Goals as goal
 

@@ -1,5 +1,4 @@
-use Rattle.std.proofs.Common.{◌≡◌, ◌∙◌, length, sym, ap}
-use Rattle.oct_def.specs.Table.{Matrix}
+use Rattle.std.proofs.Common.{◌∙◌, length}
 use Rattle.full_oct.proofs.Forming.{over-new, new-below, rows-wider, rows-extended, equated-is}
 use Rattle.full_oct.proofs.matrix.FullMatrix.equated.Goals as goal
 

@@ -3,7 +3,7 @@ use Rattle.std.specs.Prelude.{FitsSigned}
 use Rattle.std.specs.Int.{w64}
 use Rattle.std.proofs.lemmas.Int.{to_z-of_z}
 use Rattle.oct_def.specs.Bound.{bound_of}
-use Rattle.full_oct.proofs.Places.{rows_of, place_small, place_within, bound_at, word_at}
+use Rattle.full_oct.proofs.Places.{rows_of, place_small, place_within, bound_at}
 use Rattle.full_oct.proofs.matrix.FullMatrix.word.Goals as goal
 
 pub overflow_mul-i : goal.overflow_mul-i
@@ -24,20 +24,13 @@ index-requires c =
     let e = rows_of s c.self.inside.words.items c.args.self.now c.self.view_is in
     omega (arith, c.self.inside.words.ok.0, place_within s c.self.inside.words.items c.args.i c.args.j c.self.invariant (omega (arith, e)) (omega (arith, e)))
 
-pub returns-clause-bound : goal.returns-clause-bound
-returns-clause-bound c =
+pub returns : goal.returns
+returns c =
     let s = c.self.inside.size in
     let xs = c.self.inside.words.items in
     let e = rows_of s xs c.args.self.now c.self.view_is in
     let fits : FitsSigned w64 c.index.result.now = search rules in
-    ap bound_of (to_z-of_z w64 c.index.result.now fits)
-    ∙ bound_at s xs c.args.self.now c.args.i c.args.j c.index.result.now c.self.view_is c.self.invariant (omega (arith, e)) (omega (arith, e)) c.index.ensures
-
-pub returns-clause-word : goal.returns-clause-word
-returns-clause-word c =
-    let s = c.self.inside.size in
-    let xs = c.self.inside.words.items in
-    let e = rows_of s xs c.args.self.now c.self.view_is in
-    let fits : FitsSigned w64 c.index.result.now = search rules in
-    to_z-of_z w64 c.index.result.now fits
-    ∙ word_at c.index.result.now c.args.self.now c.args.i c.args.j (bound_at s xs c.args.self.now c.args.i c.args.j c.index.result.now c.self.view_is c.self.invariant (omega (arith, e)) (omega (arith, e)) c.index.ensures)
+    record {
+      bound = ap bound_of (to_z-of_z w64 c.index.result.now fits)
+          ∙ bound_at s xs c.args.self.now c.args.i c.args.j c.index.result.now c.self.view_is c.self.invariant (omega (arith, e)) (omega (arith, e)) c.index.ensures;
+    }

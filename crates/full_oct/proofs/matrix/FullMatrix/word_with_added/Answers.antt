@@ -3,7 +3,7 @@ use Rattle.std.specs.Prelude.{FitsSigned, nat_lt}
 use Rattle.std.specs.Int.{w64}
 use Rattle.std.proofs.lemmas.Int.{to_z-of_z}
 use Rattle.oct_def.specs.Bound.{bound_of}
-use Rattle.full_oct.proofs.Equations.{extended_of, both_below}
+use Rattle.full_oct.proofs.Adding.{extended_of, both_below}
 use Rattle.full_oct.proofs.matrix.FullMatrix.word_with_added.Goals as goal
 
 pub word-requires : goal.word-requires

@@ -1,8 +1,0 @@
-use Rattle.std.proofs.Common.{◌≡◌, ◌++◌}
-use Rattle.std.specs.List.{flat_map, range_with_len}
-use Rattle.interproc_top.specs.Listed.{matrix_at, listed_pair}
-use Rattle.interproc_top.proofs.listing.list_variable.Given as goal
-
--- The pairs so far stand behind what was there.
-abbrev pub invariant-loop-u : goal.invariant-loop-u
-invariant-loop-u l = l.out.items ≡ l.fn.out.items ++ flat_map (listed_pair (matrix_at l.value) l.v) (range_with_len 0 l.u)

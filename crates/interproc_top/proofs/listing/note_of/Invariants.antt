@@ -1,8 +1,0 @@
-use Rattle.std.proofs.Common.{◌≡◌, ◌++◌, []}
-use Rattle.std.specs.List.{flat_map, range_with_len}
-use Rattle.interproc_top.specs.Listed.{matrix_at, listed_variable}
-use Rattle.interproc_top.proofs.listing.note_of.Given as goal
-
--- The variables so far are listed.
-abbrev pub invariant-loop-v : goal.invariant-loop-v
-invariant-loop-v l = l.constraints.items ≡ [] ++ flat_map (listed_variable (matrix_at l.value)) (range_with_len 0 l.v)
