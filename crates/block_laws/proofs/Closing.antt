@@ -11,8 +11,7 @@ use Rattle.oct_def.proofs.Orders.{least_assoc}
 use Rattle.oct_def.proofs.Bounds.{least_self}
 use Rattle.oct_def.proofs.Indices.{opposite_twice, opposite_below}
 use Rattle.oct_def.proofs.Sound.{length-pair_steps}
-use Rattle.oct_def.proofs.Values.{EvenUnary}
-use Rattle.block_laws.proofs.Unary.{even_unary-even, strong-same}
+use Rattle.oct_def.proofs.Values.{EvenUnary, even_unary-evening, strong_unary}
 use Rattle.block_partition.specs.Partition.{IsIn, block, home, IsBlock, IsPartition}
 use Rattle.block_laws.specs.Assembly.{outer, inner, restrict, matrix, is_joint, assembly_entry, assembly, IsParts, IsCutOff, IsSeparated}
 use Rattle.block_laws.proofs.Places.{inner_below, outer-inner}
@@ -75,7 +74,7 @@ at-strengthening m i j p q = at-table (length m) (strong_entry m) i j p q
 
 pub even_unary-evened : (n : ℕ) (m : Matrix) → length m ≡ 2 * n → EvenUnary (evened_closure m)
 unfolding evened_closure
-even_unary-evened n m e = even_unary-even n (closure m) (length-closure m ∙ e)
+even_unary-evened n m e = even_unary-evening n (closure m) (length-closure m ∙ e)
 
 -- ---- strengthening of a matrix that is already strengthened in places
 
@@ -86,7 +85,7 @@ halves_same n x m e even some i p =
   where
     by : (at x i (opposite i) ≡ at m i (opposite i)) ⊎ (at x i (opposite i) ≡ strong_entry m i (opposite i)) → at x i (opposite i) ≡ at m i (opposite i)
     by (inl f) = f
-    by (inr f) = f ∙ strong-same m even i
+    by (inr f) = f ∙ strong_unary m even i
 
 pub strengthening-between : (n : ℕ) (x m : Matrix) → length m ≡ 2 * n → length x ≡ length m → EvenUnary m → ((i j : ℕ) → i < length m → j < length m → (at x i j ≡ at m i j) ⊎ (at x i j ≡ strong_entry m i j)) → strengthening x ≡ strengthening m
 unfolding strengthening strong_entry

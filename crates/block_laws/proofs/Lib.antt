@@ -1,7 +1,6 @@
 pub mod Places
 pub mod Restrict
 pub mod Assembly
-pub mod Unary
 pub mod Closing
 pub mod Components
 pub mod Lattice

@@ -3,7 +3,6 @@ pub mod Rows
 pub mod Targets
 pub mod Bringing
 pub mod Entering
-pub mod Entries
 pub mod Adding
 pub mod Values
 pub mod Taking

@@ -6,6 +6,7 @@ pub mod Indices
 pub mod Sound
 pub mod Coherent
 pub mod Values
+pub mod Closings
 pub mod Lattice
 pub mod Examples
 pub mod WordBounds

@@ -172,14 +172,14 @@ even_unary-table n f h i = by (place i)
     by (inl p) = subst IsEven (sym (at-table (2 * n) f i (opposite i) p (opposite_below n i p))) (h i p)
     by (inr p) = subst IsEven (sym (at-past_row (table (2 * n) f) i (opposite i) (omega (arith, length-table (2 * n) f)))) refl
 
-even_unary-evening : (n : ℕ) (m : Matrix) → length m ≡ 2 * n → EvenUnary (evening m)
+pub even_unary-evening : (n : ℕ) (m : Matrix) → length m ≡ 2 * n → EvenUnary (evening m)
 unfolding evening even_entry
 even_unary-evening n m e =
     subst (λ t. EvenUnary (table t (even_entry m))) (sym e)
     (even_unary-table n (even_entry m) (λ i p. even_if (at m i (opposite i)) (eqb (opposite i) (opposite i)) ((Decides-eqb (opposite i) (opposite i)).1 refl)))
 
 -- a unary entry that is even stays as it is in the strengthening
-strong_unary : (m : Matrix) → EvenUnary m → (i : ℕ) → strong_entry m i (opposite i) ≡ at m i (opposite i)
+pub strong_unary : (m : Matrix) → EvenUnary m → (i : ℕ) → strong_entry m i (opposite i) ≡ at m i (opposite i)
 unfolding EvenUnary strong_entry
 strong_unary m h i =
     ap (λ t. least (at m i (opposite i)) (plus (half (at m i (opposite i))) (half (at m t (opposite i))))) (opposite_twice i)

@@ -1,9 +1,9 @@
-use Rattle.full_oct.proofs.Entries.{tight-loop, tight-crossing, tight-strong}
+use Rattle.oct_def.proofs.Closings.{tight-cycle, tight-crossing, tight-strong}
 use Rattle.full_oct.proofs.matrix.FullMatrix.closed.Goals as goal
 
 pub returns-then-has_negative_cycle : goal.returns-then-has_negative_cycle
 returns-then-has_negative_cycle c = record {
-  tight = tight-loop c.args.self.now c.in_ok-closure.closure c.in_ok-closure.ensures.closure c.if-has_negative_cycle.ensures;
+  tight = tight-cycle c.args.self.now c.in_ok-closure.closure c.in_ok-closure.ensures.closure c.if-has_negative_cycle.ensures;
 }
 
 pub returns-then-has_crossing : goal.returns-then-has_crossing

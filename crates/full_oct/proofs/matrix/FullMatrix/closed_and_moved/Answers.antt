@@ -1,5 +1,5 @@
 use Rattle.std.proofs.Common.{sym, ◌∙◌}
-use Rattle.full_oct.proofs.Entries.{length-tight}
+use Rattle.oct_def.proofs.Closings.{length-tight}
 use Rattle.full_oct.proofs.matrix.FullMatrix.closed_and_moved.Goals as goal
 
 pub moved-requires-clause-rows : goal.moved-requires-clause-rows

@@ -3,7 +3,7 @@ use Rattle.std.specs.Prelude.{FitsSigned}
 use Rattle.std.specs.Int.{w64}
 use Rattle.std.proofs.lemmas.Int.{to_z-of_z}
 use Rattle.oct_def.specs.Bound.{bound_of, evened}
-use Rattle.full_oct.proofs.Entries.{even_entry-unary, even_entry-other}
+use Rattle.oct_def.proofs.Closings.{even_entry-unary, even_entry-other}
 use Rattle.full_oct.proofs.matrix.FullMatrix.even_word.Goals as goal
 
 pub returns-then-j-opposite : goal.returns-then-j-opposite

@@ -1,4 +1,4 @@
--- Entries of the steps of the tight closure, from the words of the code.
+-- The steps of the tight closure, from what a code that does them knows: entries, tests and the end.
 use Rattle.std.proofs.Common.{◌≡◌, ℕ, ◌/◌, Bool, true, false, cond, eqb, length, Some, None, refl, sym, ap, ◌∙◌}
 use Rattle.std.specs.Prelude.{ℤ}
 use Rattle.std.proofs.lemmas.Bool.Decides.{Decides-eqb}
@@ -29,9 +29,9 @@ crossing_of m i p q a b t ep eq ea eb h =
 
 -- ---- the end of the tight closure
 
-pub tight-loop : (m c : Matrix) → c ≡ closure m → true ≡ has_negative_cycle c → None ≡ tight m
+pub tight-cycle : (m c : Matrix) → c ≡ closure m → true ≡ has_negative_cycle c → None ≡ tight m
 unfolding tight tight_closed
-tight-loop m c e h =
+tight-cycle m c e h =
     ap (λ (b : Bool). cond b None (tight_even (evening c))) h ∙ ap tight_closed e
 
 pub tight-crossing : (m c v : Matrix) → c ≡ closure m → false ≡ has_negative_cycle c → v ≡ evening c → true ≡ has_crossing v → None ≡ tight m
