@@ -11,7 +11,7 @@ use Rattle.spl_parser.specs.declared.state.Word.{Word}
 use Rattle.spl_parser.specs.declared.state.Body.{Body}
 use Rattle.spl_parser.specs.declared.state.Simple.{Simple}
 use Rattle.spl_parser.specs.declared.state.Simple.TheVariants as simple
-use Rattle.spl_parser.specs.declared.state.Targets.{Targets}
+use Rattle.spl_parser.specs.declared.state.CallHead.{CallHead}
 use Rattle.spl_parser.specs.declared.state.Targets.TheVariants as targets
 use Rattle.spl_parser.specs.declared.state.Closed.{Closed}
 use Rattle.spl_parser.specs.declared.state.Closed.TheVariants as closed
@@ -46,23 +46,23 @@ unfolding step step_simple
 fail_arm source t t2 token b b' w start at is e at' ok ready h = stmt_arm source t t t2 token kind.Semicolon (state.Single b w) b b' stmt.Fail at (fail (plain_at start token.end)) is (ap (λ x. m.step (trees source) (m.simple (body_of source (grown t) b) (simple_of source x)) kind.Semicolon (m.leaf_of token)) e) refl (ap (λ y. fail y) at') h (omega (arith, ready.small.stmts, ok.filled)) (up token.start token.end (grown t) ok.filled ready.small)
 
 -- a call with a list of targets, and with one target
-pub calls_arm : (source : List ℕ) (t t2 : Lists) (token : Token) (b b' : Body) (ts : Targets) (o : ℕ) (xs : NameList) (f : Word) (ns : NameList) (at : StmtAt) → token.kind ≡ kind.Semicolon → ts ≡ targets.List o xs → at ≡ call_at o f.at token.end → TokenIn token → Ready token.start t (state.CallAfter b ts f ns) → AddsStmt t t2 b (stmt.Call xs f.name ns) at b' → Reaches source token.end t2 (state.InBlock b') (next_of source (grown t) (state.CallAfter b ts f ns) token)
+pub calls_arm : (source : List ℕ) (t t2 : Lists) (token : Token) (b b' : Body) (hd : CallHead) (o : ℕ) (xs : NameList) (ns : NameList) (at : StmtAt) → token.kind ≡ kind.Semicolon → hd.targets ≡ targets.List o xs → at ≡ call_at o hd.called.at token.end → TokenIn token → Ready token.start t (state.CallAfter b hd ns) → AddsStmt t t2 b (stmt.Call xs hd.called.name ns) at b' → Reaches source token.end t2 (state.InBlock b') (next_of source (grown t) (state.CallAfter b hd ns) token)
 unfolding step step_call_after
-calls_arm source t t2 token b b' ts o xs f ns at is e at' ok ready h = stmt_arm source t t t2 token kind.Semicolon (state.CallAfter b ts f ns) b b' (stmt.Call xs f.name ns) at (call (names_over (grown t).named xs) (name_of (grown t).names f.name) (names_over (grown t).named ns) (call_at o f.at token.end)) is (ap (λ x. m.step (trees source) (m.call_after (body_of source (grown t) b) (targets_of source (grown t) x) (word_of (grown t) f) tt (names_over (grown t).named ns) tt) kind.Semicolon (m.leaf_of token)) e) refl (ap (λ y. call (names_over (grown t).named xs) (name_of (grown t).names f.name) (names_over (grown t).named ns) y) at') h (omega (arith, ready.small.stmts, ok.filled)) (up token.start token.end (grown t) ok.filled ready.small)
+calls_arm source t t2 token b b' hd o xs ns at is e at' ok ready h = stmt_arm source t t t2 token kind.Semicolon (state.CallAfter b hd ns) b b' (stmt.Call xs hd.called.name ns) at (call (names_over (grown t).named xs) (name_of (grown t).names hd.called.name) (names_over (grown t).named ns) (call_at o hd.called.at token.end)) is (ap (λ x. m.step (trees source) (m.call_after (body_of source (grown t) b) (targets_of source (grown t) x) (word_of (grown t) hd.called) tt (names_over (grown t).named ns) tt) kind.Semicolon (m.leaf_of token)) e) refl (ap (λ y. call (names_over (grown t).named xs) (name_of (grown t).names hd.called.name) (names_over (grown t).named ns) y) at') h (omega (arith, ready.small.stmts, ok.filled)) (up token.start token.end (grown t) ok.filled ready.small)
 
-pub call_arm : (source : List ℕ) (t t1 t2 : Lists) (token : Token) (b b' : Body) (ts : Targets) (x : Word) (f : Word) (ns : NameList) (first : ℕ) (at : StmtAt) → token.kind ≡ kind.Semicolon → ts ≡ targets.One x → at ≡ call_at x.at f.at token.end → TokenIn token → Ready token.start t (state.CallAfter b ts f ns) → first ≡ length (grown t).named → Grew t1 (record (grown t) { named = (grown t).named ++ record { name = name_of (grown t).names x.name; at = x.at } ∷ [] }) → AddsStmt t1 t2 b (stmt.Call (record { first = first; count = 1 }) f.name ns) at b' → Reaches source token.end t2 (state.InBlock b') (next_of source (grown t) (state.CallAfter b ts f ns) token)
+pub call_arm : (source : List ℕ) (t t1 t2 : Lists) (token : Token) (b b' : Body) (hd : CallHead) (x : Word) (ns : NameList) (first : ℕ) (at : StmtAt) → token.kind ≡ kind.Semicolon → hd.targets ≡ targets.One x → at ≡ call_at x.at hd.called.at token.end → TokenIn token → Ready token.start t (state.CallAfter b hd ns) → first ≡ length (grown t).named → Grew t1 (record (grown t) { named = (grown t).named ++ record { name = name_of (grown t).names x.name; at = x.at } ∷ [] }) → AddsStmt t1 t2 b (stmt.Call (record { first = first; count = 1 }) hd.called.name ns) at b' → Reaches source token.end t2 (state.InBlock b') (next_of source (grown t) (state.CallAfter b hd ns) token)
 unfolding step step_call_after
-call_arm source t t1 t2 token b b' ts x f ns first at is e at' ok ready num grew h =
+call_arm source t t1 t2 token b b' hd x ns first at is e at' ok ready num grew h =
     let y : Named = word_of (grown t) x in
     let N : (grown t1).named ≡ (grown t).named ++ y ∷ [] = ap (λ (q : Grown). q.named) grew.meaning in
     let G : Grows (grown t) (grown t1) = subst (λ (q : Grown). Grows (grown t) q) (sym grew.meaning) (grows_named (grown t) y) in
     let one : span_of (grown t1).named first 1 ≡ y ∷ [] = ap (λ l. span_of l first 1) N ∙ (ap (λ k. take 1 (drop k ((grown t).named ++ y ∷ []))) num ∙ ap (λ l. take 1 l) (drop-append_seam (grown t).named (y ∷ []))) in
-    let rest : span_of (grown t1).named ns.first ns.count ≡ span_of (grown t).named ns.first ns.count = G.named ns.first ns.count ready.there.3 in
-    let name : name_of (grown t1).names f.name ≡ name_of (grown t).names f.name = ap (λ (q : Grown). name_of q.names f.name) grew.meaning in
-    stmt_arm source t t1 t2 token kind.Semicolon (state.CallAfter b ts f ns) b b' (stmt.Call (record { first = first; count = 1 }) f.name ns) at (call (y ∷ []) (name_of (grown t).names f.name) (names_over (grown t).named ns) (call_at x.at f.at token.end)) is
-    (ap (λ z. m.step (trees source) (m.call_after (body_of source (grown t) b) (targets_of source (grown t) z) (word_of (grown t) f) tt (names_over (grown t).named ns) tt) kind.Semicolon (m.leaf_of token)) e)
+    let rest : span_of (grown t1).named ns.first ns.count ≡ span_of (grown t).named ns.first ns.count = G.named ns.first ns.count ready.there.2 in
+    let name : name_of (grown t1).names hd.called.name ≡ name_of (grown t).names hd.called.name = ap (λ (q : Grown). name_of q.names hd.called.name) grew.meaning in
+    stmt_arm source t t1 t2 token kind.Semicolon (state.CallAfter b hd ns) b b' (stmt.Call (record { first = first; count = 1 }) hd.called.name ns) at (call (y ∷ []) (name_of (grown t).names hd.called.name) (names_over (grown t).named ns) (call_at x.at hd.called.at token.end)) is
+    (ap (λ z. m.step (trees source) (m.call_after (body_of source (grown t) b) (targets_of source (grown t) z) (word_of (grown t) hd.called) tt (names_over (grown t).named ns) tt) kind.Semicolon (m.leaf_of token)) e)
     (body_keeps source (grown t) (grown t1) b G ready.there.0)
-    (ap (λ z. call z (name_of (grown t1).names f.name) (names_over (grown t1).named ns) at) one ∙ (ap (λ z. call (y ∷ []) z (names_over (grown t1).named ns) at) name ∙ (ap (λ z. call (y ∷ []) (name_of (grown t).names f.name) z at) rest ∙ ap (λ z. call (y ∷ []) (name_of (grown t).names f.name) (names_over (grown t).named ns) z) at'))) h
+    (ap (λ z. call z (name_of (grown t1).names hd.called.name) (names_over (grown t1).named ns) at) one ∙ (ap (λ z. call (y ∷ []) z (names_over (grown t1).named ns) at) name ∙ (ap (λ z. call (y ∷ []) (name_of (grown t).names hd.called.name) z at) rest ∙ ap (λ z. call (y ∷ []) (name_of (grown t).names hd.called.name) (names_over (grown t).named ns) z) at'))) h
     (omega (arith, ap (λ (q : Grown). length q.stmts) grew.meaning, ready.small.stmts, ok.filled))
     (record {
       letters = omega (arith, ap (λ (q : Grown). q.letters) grew.meaning, ready.small.letters, ok.filled);
@@ -77,9 +77,9 @@ call_arm source t t1 t2 token b b' ts x f ns first at is e at' ok ready num grew
 
 -- a conditional or a loop, with or without its `;`
 pub closed_is : (source : List ℕ) (r : Grown) (c : Closed) (s : Option ℕ) (end : ℕ) → point_after (closed_word c) s ≡ end → stmt_over (ground_of r) r.stmts (closed_stmt c) (closed_place c end) ≡ m.finished (trees source) (closed_of source r c) s
-closed_is source r (closed.If w e t b f) s end h = ap (λ y. if_then (expr_at r.exprs e) (block_over r.blocks r.stmts b) (block_at w t w y)) (sym h)
-closed_is source r (closed.IfElse w e t b els c f) s end h = ap (λ y. if_else (expr_at r.exprs e) (block_over r.blocks r.stmts b) (block_over r.blocks r.stmts c) (block_at w t els y)) (sym h)
-closed_is source r (closed.While w e d b f) s end h = ap (λ y. while_do (expr_at r.exprs e) (block_over r.blocks r.stmts b) (block_at w d w y)) (sym h)
+closed_is source r (closed.If f b word) s end h = ap (λ y. if_then (expr_at r.exprs f.condition) (block_over r.blocks r.stmts b) (block_at f.start f.first f.start y)) (sym h)
+closed_is source r (closed.IfElse f b els c word) s end h = ap (λ y. if_else (expr_at r.exprs f.condition) (block_over r.blocks r.stmts b) (block_over r.blocks r.stmts c) (block_at f.start f.first els y)) (sym h)
+closed_is source r (closed.While f b word) s end h = ap (λ y. while_do (expr_at r.exprs f.condition) (block_over r.blocks r.stmts b) (block_at f.start f.first f.start y)) (sym h)
 
 pub closed_semicolon_arm : (source : List ℕ) (t t2 : Lists) (token : Token) (b b' : Body) (c : Closed) → token.kind ≡ kind.Semicolon → TokenIn token → Ready token.start t (state.AfterEnd b c) → AddsStmt t t2 b (closed_stmt c) (closed_place c token.end) b' → Reaches source token.end t2 (state.InBlock b') (next_of source (grown t) (state.AfterEnd b c) token)
 unfolding step step_after_end

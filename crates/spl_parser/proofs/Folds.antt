@@ -1,21 +1,18 @@
 -- Expressions that are added one over the other.
-use Rattle.std.proofs.Common.{◌≡◌, ℕ, ◌+◌, ◌^◌, ◌<◌, ◌≤◌, List, [], ◌∷◌, ◌++◌, length, get_or, Option, refl, sym, ap, ◌∙◌, subst, arith, length-append}
+use Rattle.std.proofs.Common.{◌≡◌, ℕ, ◌+◌, List, [], ◌∷◌, ◌++◌, length, get_or, refl, sym, ap, ◌∙◌, subst, arith, length-append}
 use Rattle.std.proofs.Math.ListN.{get_or-append}
 use Rattle.std.proofs.lemmas.List.{get_or_push}
 use Rattle.spl_tree.specs.declared.parts.ExprId.{ExprId}
-use Rattle.spl_tree.specs.declared.parts.BinOp.{BinOp}
 use Rattle.spl_tree.specs.Lists.{Lists}
 use Rattle.spl_tree.specs.Facts.{Each, IsPlace, IsTree}
 use Rattle.spl_tree.specs.Program.{ExprTree, number}
 use Rattle.spl_tree.specs.Meaning.{expr_at}
-use Rattle.spl_parser.specs.declared.state.Side.{Side}
-use Rattle.spl_parser.specs.declared.state.Left.{Left}
 use Rattle.spl_parser.specs.Growth.{Grown, grown, Grew}
 use Rattle.spl_parser.specs.Machine as m
 use Rattle.spl_parser.specs.Trees.{trees}
-use Rattle.spl_parser.specs.View.{side_of, left_of, ExprThere, SideIn, LeftIn, one_if, Grows, Folds, joined_tree, sided_tree}
+use Rattle.spl_parser.specs.View.{ExprThere, Grows, Folds}
 use Rattle.spl_tree.specs.Program.{negative, opposite}
-use Rattle.spl_parser.proofs.Stay.{grows_none, grows_exprs, grows_then, left_keeps, side_keeps}
+use Rattle.spl_parser.proofs.Stay.{grows_none, grows_exprs, grows_then}
 
 -- nothing was added
 pub folds_none : (t : Lists) (e : ExprId) → IsTree t → ExprThere (grown t) e → Folds t t 0 e (expr_at (grown t).exprs e)
@@ -69,9 +66,6 @@ each_last xs y h = let e = get_or_push xs y y (length xs) refl in let P : ℕ �
 pub folding_place : (under : List ℕ → ExprTree → ExprTree) (t0 t : Lists) (all left rest : List ℕ) (at : ℕ) (operand inner : ExprId) → left ≡ rest ++ at ∷ [] → Folding under t0 t all left operand inner → IsPlace at
 folding_place under t0 t all left rest at operand inner e h = each_last rest at (subst (λ (l : List ℕ). Each (λ k x. IsPlace x) l) e h.placed)
 
-pub folding_room : (under : List ℕ → ExprTree → ExprTree) (t0 t : Lists) (all left rest : List ℕ) (at : ℕ) (operand inner : ExprId) → left ≡ rest ++ at ∷ [] → length (grown t0).exprs + length all ≤ 2 ^ 20 → Folding under t0 t all left operand inner → length (grown t).exprs < 2 ^ 20
-folding_room under t0 t all left rest at operand inner e room h = omega (arith, ap length e, length-append rest (at ∷ []), h.total, h.folds.count)
-
 pub folding_step : (under : List ℕ → ExprTree → ExprTree) (wrap : ExprTree → ℕ → ExprTree) (t0 t t' : Lists) (all left rest : List ℕ) (at : ℕ) (operand inner inner' : ExprId) → ((ms : List ℕ) (m' : ℕ) (x : ExprTree) → under (ms ++ m' ∷ []) x ≡ under ms (wrap x m')) → left ≡ rest ++ at ∷ [] → inner'.0 ≡ length (grown t).exprs → Grew t' (record (grown t) { exprs = (grown t).exprs ++ wrap (expr_at (grown t).exprs inner) at ∷ [] }) → Folding under t0 t all left operand inner → Folding under t0 t' all rest operand inner'
 folding_step under wrap t0 t t' all left rest at operand inner inner' law e place g h =
     let one = folds_one t t' inner' (wrap (expr_at (grown t).exprs inner) at) place g in
@@ -82,9 +76,6 @@ folding_step under wrap t0 t t' all left rest at operand inner inner' law e plac
       placed = each_front rest (at ∷ []) (subst (λ (l : List ℕ). Each (λ k x. IsPlace x) l) e h.placed);
       is = ap (λ x. under rest x) one.is ∙ (sym (law rest at (expr_at (grown t).exprs inner)) ∙ (ap (λ l. under l (expr_at (grown t).exprs inner)) (sym e) ∙ h.is));
     }
-
-pub folding_end : (under : List ℕ → ExprTree → ExprTree) (t0 t : Lists) (all left : List ℕ) (operand inner : ExprId) → ((x : ExprTree) → under [] x ≡ x) → left ≡ [] → Folding under t0 t all left operand inner → Folds t0 t (length all) inner (under all (expr_at (grown t0).exprs operand))
-folding_end under t0 t all left operand inner law e h = folds_is t0 t h.count (length all) inner (expr_at (grown t).exprs inner) (under all (expr_at (grown t0).exprs operand)) (omega (arith, h.total, ap length e)) (sym (ap (λ l. under l (expr_at (grown t).exprs inner)) e ∙ law (expr_at (grown t).exprs inner)) ∙ h.is) h.folds
 
 pub minuses_more : (ms : List ℕ) (m' : ℕ) (x : ExprTree) → m.under_minuses (trees []) (ms ++ m' ∷ []) x ≡ m.under_minuses (trees []) ms (negative x m')
 minuses_more [] m' x = refl
@@ -102,13 +93,3 @@ minuses_any source (y ∷ ms) x = ap (λ z. negative z y) (minuses_any source ms
 pub nots_any : (source : List ℕ) (ms : List ℕ) (x : ExprTree) → m.under_nots (trees source) ms x ≡ m.under_nots (trees []) ms x
 nots_any source [] x = refl
 nots_any source (y ∷ ms) x = ap (λ z. opposite z y) (nots_any source ms x)
-
--- a level over the levels below it
-pub then_joined : (t t1 t2 : Lists) (n : ℕ) (e f : ExprId) (x : ExprTree) (left : Option Left) → LeftIn (grown t) left → Folds t t1 n e x → Folds t1 t2 (one_if left) f (joined_tree (left_of (grown t1) left) (expr_at (grown t1).exprs e)) → Folds t t2 (one_if left + n) f (joined_tree (left_of (grown t) left) x)
-then_joined t t1 t2 n e f x left h a b = folds_is t t2 (n + one_if left) (one_if left + n) f (joined_tree (left_of (grown t1) left) (expr_at (grown t1).exprs e)) (joined_tree (left_of (grown t) left) x) (omega arith) (ap (λ l. joined_tree l (expr_at (grown t1).exprs e)) (left_keeps (grown t) (grown t1) left a.grows h) ∙ ap (λ y. joined_tree (left_of (grown t) left) y) a.is) (folds_then t t1 t2 n (one_if left) e f x (joined_tree (left_of (grown t1) left) (expr_at (grown t1).exprs e)) a b)
-
-pub then_sided : (t t1 t2 : Lists) (n : ℕ) (e f : ExprId) (x : ExprTree) (op : BinOp) (side : Option Side) → SideIn (grown t) side → Folds t t1 n e x → Folds t1 t2 (one_if side) f (sided_tree op (side_of (grown t1) side) (expr_at (grown t1).exprs e)) → Folds t t2 (one_if side + n) f (sided_tree op (side_of (grown t) side) x)
-then_sided t t1 t2 n e f x op side h a b = folds_is t t2 (n + one_if side) (one_if side + n) f (sided_tree op (side_of (grown t1) side) (expr_at (grown t1).exprs e)) (sided_tree op (side_of (grown t) side) x) (omega arith) (ap (λ l. sided_tree op l (expr_at (grown t1).exprs e)) (side_keeps (grown t) (grown t1) side a.grows h) ∙ ap (λ y. sided_tree op (side_of (grown t) side) y) a.is) (folds_then t t1 t2 n (one_if side) e f x (sided_tree op (side_of (grown t1) side) (expr_at (grown t1).exprs e)) a b)
-
-pub then_nots : (t t1 t2 : Lists) (n : ℕ) (e f : ExprId) (x : ExprTree) (nots : List ℕ) → Folds t t1 n e x → Folds t1 t2 (length nots) f (m.under_nots (trees []) nots (expr_at (grown t1).exprs e)) → Folds t t2 (length nots + n) f (m.under_nots (trees []) nots x)
-then_nots t t1 t2 n e f x nots a b = folds_is t t2 (n + length nots) (length nots + n) f (m.under_nots (trees []) nots (expr_at (grown t1).exprs e)) (m.under_nots (trees []) nots x) (omega arith) (ap (λ y. m.under_nots (trees []) nots y) a.is) (folds_then t t1 t2 n (length nots) e f x (m.under_nots (trees []) nots (expr_at (grown t1).exprs e)) a b)

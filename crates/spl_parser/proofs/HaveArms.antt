@@ -204,7 +204,7 @@ assign_end_arm source t t1 t2 token b b' g s0 ps p a e x at sg none goal at' sha
     (folds_small token.start token.end t t1 (waiting p) e (whole_tree (grown t) p (expr_at (grown t).exprs a)) (sum_by waiting ps + waiting p) 0 ok.filled (omega arith) f small)
 
 -- `then` and `do` after a condition
-pub then_arm : (source : List ℕ) (t t1 : Lists) (token : Token) (b b' : Body) (g : Goal) (s0 : State) (ps : List Pending) (p : Pending) (a e : ExprId) (w : ℕ) → sign_of token.kind ≡ sign.Then → ps ≡ [] → g ≡ goal_.If w → state_of source (grown t) s0 ≡ m.have (body_of source (grown t) b) (goal_of source (grown t) g) (stacked (paren_of source (grown t)) ps) (pending_of source (grown t) p) (expr_at (grown t).exprs a) → TokenIn token → Small token.start (grown t) (sum_by waiting ps + waiting p) → BodyIn (grown t) b → GoalIn (grown t) g → Folds t t1 (waiting p) e (whole_tree (grown t) p (expr_at (grown t).exprs a)) → OpensBlock b (frame.Then b.stmts w e token.end) b' → Reaches source token.end t1 (state.InBlock b') (next_of source (grown t) s0 token)
+pub then_arm : (source : List ℕ) (t t1 : Lists) (token : Token) (b b' : Body) (g : Goal) (s0 : State) (ps : List Pending) (p : Pending) (a e : ExprId) (w : ℕ) → sign_of token.kind ≡ sign.Then → ps ≡ [] → g ≡ goal_.If w → state_of source (grown t) s0 ≡ m.have (body_of source (grown t) b) (goal_of source (grown t) g) (stacked (paren_of source (grown t)) ps) (pending_of source (grown t) p) (expr_at (grown t).exprs a) → TokenIn token → Small token.start (grown t) (sum_by waiting ps + waiting p) → BodyIn (grown t) b → GoalIn (grown t) g → Folds t t1 (waiting p) e (whole_tree (grown t) p (expr_at (grown t).exprs a)) → OpensBlock b (frame.Then b.stmts (record { start = w; condition = e; first = token.end })) b' → Reaches source token.end t1 (state.InBlock b') (next_of source (grown t) s0 token)
 unfolding on_then
 then_arm source t t1 token b b' g s0 ps p a e w sg none goal shape ok small hb hg f o =
     let closed = f.is ∙ whole_is source (grown t) p (expr_at (grown t).exprs a) in
@@ -213,11 +213,11 @@ then_arm source t t1 token b b' g s0 ps p a e w sg none goal shape ok small hb h
     let held = body_in (grown t) (grown t1) b f.grows (folds_blocks t t1 (waiting p) e (whole_tree (grown t) p (expr_at (grown t).exprs a)) f) hb in
     let opened : m.Body (trees source) → ExprTree → Option (m.State (trees source)) = λ bd x. Some (m.in_block (m.with_block (trees source) bd (m.in_then bd.stmts w x token.end ∷ bd.frames) empty)) in
     reached source token.end t1 (state.InBlock b') _ _ (at_end_sign source (grown t) token b g (goal_.If w) s0 ps p a sign.Then sg none goal shape)
-    (ap (λ y. opened y (m.closed_0 (trees source) (pending_of source (grown t) p) (expr_at (grown t).exprs a))) (sym keeps) ∙ (ap (λ y. opened (body_of source (grown t1) b) y) (sym closed) ∙ ap (λ y. Some (m.in_block y)) (sym (opens_block source (grown t1) b b' (frame.Then b.stmts w e token.end) o))))
+    (ap (λ y. opened y (m.closed_0 (trees source) (pending_of source (grown t) p) (expr_at (grown t).exprs a))) (sym keeps) ∙ (ap (λ y. opened (body_of source (grown t1) b) y) (sym closed) ∙ ap (λ y. Some (m.in_block y)) (sym (opens_block source (grown t1) b b' (frame.Then b.stmts (record { start = w; condition = e; first = token.end })) o))))
     f.whole (folds_small token.start token.end t t1 (waiting p) e (whole_tree (grown t) p (expr_at (grown t).exprs a)) (sum_by waiting ps + waiting p) 0 ok.filled (omega arith) f small)
-    (opens_in (grown t1) b b' (frame.Then b.stmts w e token.end) o held (held.stmts, at_w, f.there, ok.within) refl)
+    (opens_in (grown t1) b b' (frame.Then b.stmts (record { start = w; condition = e; first = token.end })) o held (held.stmts, (at_w, f.there, ok.within)) refl)
 
-pub do_arm : (source : List ℕ) (t t1 : Lists) (token : Token) (b b' : Body) (g : Goal) (s0 : State) (ps : List Pending) (p : Pending) (a e : ExprId) (w : ℕ) → sign_of token.kind ≡ sign.Do → ps ≡ [] → g ≡ goal_.While w → state_of source (grown t) s0 ≡ m.have (body_of source (grown t) b) (goal_of source (grown t) g) (stacked (paren_of source (grown t)) ps) (pending_of source (grown t) p) (expr_at (grown t).exprs a) → TokenIn token → Small token.start (grown t) (sum_by waiting ps + waiting p) → BodyIn (grown t) b → GoalIn (grown t) g → Folds t t1 (waiting p) e (whole_tree (grown t) p (expr_at (grown t).exprs a)) → OpensBlock b (frame.While b.stmts w e token.end) b' → Reaches source token.end t1 (state.InBlock b') (next_of source (grown t) s0 token)
+pub do_arm : (source : List ℕ) (t t1 : Lists) (token : Token) (b b' : Body) (g : Goal) (s0 : State) (ps : List Pending) (p : Pending) (a e : ExprId) (w : ℕ) → sign_of token.kind ≡ sign.Do → ps ≡ [] → g ≡ goal_.While w → state_of source (grown t) s0 ≡ m.have (body_of source (grown t) b) (goal_of source (grown t) g) (stacked (paren_of source (grown t)) ps) (pending_of source (grown t) p) (expr_at (grown t).exprs a) → TokenIn token → Small token.start (grown t) (sum_by waiting ps + waiting p) → BodyIn (grown t) b → GoalIn (grown t) g → Folds t t1 (waiting p) e (whole_tree (grown t) p (expr_at (grown t).exprs a)) → OpensBlock b (frame.While b.stmts (record { start = w; condition = e; first = token.end })) b' → Reaches source token.end t1 (state.InBlock b') (next_of source (grown t) s0 token)
 unfolding on_do
 do_arm source t t1 token b b' g s0 ps p a e w sg none goal shape ok small hb hg f o =
     let closed = f.is ∙ whole_is source (grown t) p (expr_at (grown t).exprs a) in
@@ -226,6 +226,6 @@ do_arm source t t1 token b b' g s0 ps p a e w sg none goal shape ok small hb hg 
     let held = body_in (grown t) (grown t1) b f.grows (folds_blocks t t1 (waiting p) e (whole_tree (grown t) p (expr_at (grown t).exprs a)) f) hb in
     let opened : m.Body (trees source) → ExprTree → Option (m.State (trees source)) = λ bd x. Some (m.in_block (m.with_block (trees source) bd (m.in_while bd.stmts w x token.end ∷ bd.frames) empty)) in
     reached source token.end t1 (state.InBlock b') _ _ (at_end_sign source (grown t) token b g (goal_.While w) s0 ps p a sign.Do sg none goal shape)
-    (ap (λ y. opened y (m.closed_0 (trees source) (pending_of source (grown t) p) (expr_at (grown t).exprs a))) (sym keeps) ∙ (ap (λ y. opened (body_of source (grown t1) b) y) (sym closed) ∙ ap (λ y. Some (m.in_block y)) (sym (opens_block source (grown t1) b b' (frame.While b.stmts w e token.end) o))))
+    (ap (λ y. opened y (m.closed_0 (trees source) (pending_of source (grown t) p) (expr_at (grown t).exprs a))) (sym keeps) ∙ (ap (λ y. opened (body_of source (grown t1) b) y) (sym closed) ∙ ap (λ y. Some (m.in_block y)) (sym (opens_block source (grown t1) b b' (frame.While b.stmts (record { start = w; condition = e; first = token.end })) o))))
     f.whole (folds_small token.start token.end t t1 (waiting p) e (whole_tree (grown t) p (expr_at (grown t).exprs a)) (sum_by waiting ps + waiting p) 0 ok.filled (omega arith) f small)
-    (opens_in (grown t1) b b' (frame.While b.stmts w e token.end) o held (held.stmts, at_w, f.there, ok.within) refl)
+    (opens_in (grown t1) b b' (frame.While b.stmts (record { start = w; condition = e; first = token.end })) o held (held.stmts, (at_w, f.there, ok.within)) refl)

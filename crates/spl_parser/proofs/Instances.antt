@@ -2,7 +2,7 @@
 use Rattle.std.proofs.Common.{◌≡◌, ℕ, List, Option, Some, None, refl}
 use Rattle.spl_parser.specs.Grammar.{Leaf, E0, OptSemicolon, no_semicolon, a_semicolon, Stmts, if_stmt, while_stmt, OptElse, no_else, some_else}
 use Rattle.spl_tree.specs.Program.{BlockTree}
-use Rattle.spl_parser.specs.TreeOf.{named, kind_tree, kind_start, decl_trees, opt_decl_trees, var_trees, name_trees, opt_name_trees, cmp_op, cmp_place, sum_op, sum_place, product_op, product_place, tree_0, tree_1, tree_2, tree_3, tree_4, tree_5, tree_6, tree_atom, end_after, stmt_trees, stmt_tree, proc_trees, tree_of}
+use Rattle.spl_parser.specs.TreeOf.{named, kind_tree, kind_start, decl_trees, opt_decl_trees, var_trees, name_trees, opt_name_trees, cmp_op, cmp_place, sum_op, sum_place, product_op, product_place, tree_0, tree_1, tree_2, tree_3, tree_4, tree_5, tree_6, tree_atom, stmt_trees, stmt_tree, proc_trees, tree_of}
 use Rattle.spl_parser.specs.Trees.{trees, point_after, conditional_of}
 use Rattle.spl_parser.proofs.Algebras.{derivations as D, nothing}
 use Rattle.spl_parser.proofs.Morphisms.{Morphism}
@@ -15,10 +15,6 @@ semi_place (a_semicolon l) = Some l.end
 abbrev pub tail_tree : List ℕ → OptElse → Option (ℕ × BlockTree)
 tail_tree source no_else = None
 tail_tree source (some_else l ss) = Some (l.end, stmt_trees source ss)
-
-end_after-is : (f : Leaf) (s : OptSemicolon) → end_after s f ≡ point_after f.end (semi_place s)
-end_after-is f no_semicolon = refl
-end_after-is f (a_semicolon l) = refl
 
 pub conditional-is : (source : List ℕ) (w : Leaf) (e : E0) (t : Leaf) (ss : Stmts) (els : OptElse) (f : Leaf) (s : OptSemicolon) → stmt_tree source (if_stmt w e t ss els f s) ≡ conditional_of w.start (tree_0 source e) t.end (stmt_trees source ss) (tail_tree source els) (point_after f.end (semi_place s))
 conditional-is source w e t ss no_else f no_semicolon = refl

@@ -123,12 +123,12 @@ vars_end_arm source t token x first list e ok ready rest = still0 source t (stat
 pub names_end_arm : (source : List ℕ) (t : Lists) (token : Token) (b : Body) (g : NameGoal) (first : ℕ) (list : NameList) → token.kind ≡ kind.RightParen → TokenIn token → Ready token.start t (state.NamesAfter b g first) → RestOf first (length (grown t).named) list.first list.count → Reaches source token.end t (names_end b g list) (next_of source (grown t) (state.NamesAfter b g first) token)
 unfolding step step_names_after names_close
 names_end_arm source t token b (name_goal.Targets o) first list e ok ready rest = still0 source t (state.NamesAfter b (name_goal.Targets o) first) (state.TargetsAfter b o list) token kind.RightParen e (ap (λ (y : List Named). Some (m.targets_after (body_of source (grown t) b) o y tt)) (sym (rest_span (grown t).named first list.first list.count rest ready.there.2))) refl (ready.there.0, ready.there.1, omega (arith, rest.0, rest.1)) ready ok
-names_end_arm source t token b (name_goal.Arguments ts f) first list e ok ready rest = still0 source t (state.NamesAfter b (name_goal.Arguments ts f) first) (state.CallAfter b ts f list) token kind.RightParen e (ap (λ (y : List Named). Some (m.call_after (body_of source (grown t) b) (targets_of source (grown t) ts) (word_of (grown t) f) tt y tt)) (sym (rest_span (grown t).named first list.first list.count rest ready.there.2))) refl (ready.there.0, ready.there.1.0, ready.there.1.1, omega (arith, rest.0, rest.1)) ready ok
+names_end_arm source t token b (name_goal.Arguments h) first list e ok ready rest = still0 source t (state.NamesAfter b (name_goal.Arguments h) first) (state.CallAfter b h list) token kind.RightParen e (ap (λ (y : List Named). Some (m.call_after (body_of source (grown t) b) (targets_of source (grown t) h.targets) (word_of (grown t) h.called) tt y tt)) (sym (rest_span (grown t).named first list.first list.count rest ready.there.2))) refl (ready.there.0, ready.there.1, omega (arith, rest.0, rest.1)) ready ok
 
 pub no_names_arm : (source : List ℕ) (t : Lists) (token : Token) (b : Body) (g : NameGoal) → token.kind ≡ kind.RightParen → TokenIn token → Ready token.start t (state.NamesOpen b g) → Reaches source token.end t (names_end b g (record { first = 0; count = 0 })) (next_of source (grown t) (state.NamesOpen b g) token)
 unfolding step step_names_open names_close
 no_names_arm source t token b (name_goal.Targets o) e ok ready = still0 source t (state.NamesOpen b (name_goal.Targets o)) (state.TargetsAfter b o (record { first = 0; count = 0 })) token kind.RightParen e refl refl (ready.there.0, ready.there.1, omega arith) ready ok
-no_names_arm source t token b (name_goal.Arguments ts f) e ok ready = still0 source t (state.NamesOpen b (name_goal.Arguments ts f)) (state.CallAfter b ts f (record { first = 0; count = 0 })) token kind.RightParen e refl refl (ready.there.0, ready.there.1.0, ready.there.1.1, omega arith) ready ok
+no_names_arm source t token b (name_goal.Arguments h) e ok ready = still0 source t (state.NamesOpen b (name_goal.Arguments h)) (state.CallAfter b h (record { first = 0; count = 0 })) token kind.RightParen e refl refl (ready.there.0, ready.there.1, omega arith) ready ok
 
 pub decl_semicolon_none : (source : List ℕ) (r : Grown) (token : Token) (g : DeclGoal) (first : ℕ) → token.kind ≡ kind.Semicolon → ((ds : List Declared) (l : m.Algebra.Place (trees source)) → m.vars_close (trees source) (decl_goal_of source r g) ds l ≡ None) → next_of source r (state.DeclAfter g first) token ≡ None
 unfolding step step_decl_after

@@ -342,9 +342,6 @@ keeps_block h b Done l = keeps_done h b b.frames l
 keeps_block h b End l = keeps_end h b b.frames l
 keeps_block h b _ l = refl
 
-keeps_with_stmt : {A B : Algebra} (h : Morphism A B) (b : Body A) (s : A.Stmt) → on_body h (with_stmt A b s) ≡ with_stmt B (on_body h b) (h.on_stmt s)
-keeps_with_stmt h b s = simp h.more_stmts
-
 keeps_simple_stmt : {A B : Algebra} (h : Morphism A B) (w : Simple A) (q : A.Stop) → h.on_stmt (simple_stmt A w q) ≡ simple_stmt B (on_simple h w) (h.on_stop q)
 keeps_simple_stmt h (skip_word w) q = h.skip w q
 keeps_simple_stmt h (halt_word w) q = h.halt w q

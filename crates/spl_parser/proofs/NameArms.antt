@@ -68,13 +68,13 @@ assign_arm source t t' token b x w e ok ready h = moves source t t' (state.Assig
     ∙ ap (λ y. Some (m.assign_name (body_of source (grown t') b) (word_of (grown t') x) tt y)) (sym h.is)))
     h.whole (word_small source token t t' w 0 1 ok h (omega arith) ready.small) (body_in (grown t) (grown t') b h.grows (blocks_stay' source token t t' w h) ready.there.0, word_in (grown t) (grown t') x h.grows ready.there.1, h.there)
 
-pub called_arm : (source : List ℕ) (t t' : Lists) (token : Token) (b : Body) (ts : Targets) (w : Word) → token.kind ≡ kind.Name → TokenIn token → Ready token.start t (state.Called b ts) → NewWord source token t t' w → Reaches source token.end t' (state.CalledName b ts w) (next_of source (grown t) (state.Called b ts) token)
+pub called_arm : (source : List ℕ) (t t' : Lists) (token : Token) (b : Body) (ts : Targets) (w : Word) → token.kind ≡ kind.Name → TokenIn token → Ready token.start t (state.Called b ts) → NewWord source token t t' w → Reaches source token.end t' (state.CalledName b (record { targets = ts; called = w })) (next_of source (grown t) (state.Called b ts) token)
 unfolding step step_called
-called_arm source t t' token b ts w e ok ready h = moves source t t' (state.Called b ts) (state.CalledName b ts w) token kind.Name e
+called_arm source t t' token b ts w e ok ready h = moves source t t' (state.Called b ts) (state.CalledName b (record { targets = ts; called = w })) token kind.Name e
     (ap (λ y. Some (m.called_name y (targets_of source (grown t) ts) (named source (m.leaf_of token)))) (sym (body_keeps source (grown t) (grown t') b h.grows ready.there.0))
     ∙ (ap (λ y. Some (m.called_name (body_of source (grown t') b) y (named source (m.leaf_of token)))) (sym (targets_keep source (grown t) (grown t') ts h.grows ready.there.1))
     ∙ ap (λ y. Some (m.called_name (body_of source (grown t') b) (targets_of source (grown t') ts) y)) (sym h.is)))
-    h.whole (word_small source token t t' w 0 0 ok h (omega arith) ready.small) (body_in (grown t) (grown t') b h.grows (blocks_stay' source token t t' w h) ready.there.0, targets_in (grown t) (grown t') ts h.grows ready.there.1, h.there)
+    h.whole (word_small source token t t' w 0 0 ok h (omega arith) ready.small) (body_in (grown t) (grown t') b h.grows (blocks_stay' source token t t' w h) ready.there.0, (targets_in (grown t) (grown t') ts h.grows ready.there.1, h.there))
 
 -- a name of a list of names: the name is added, and then the item of the list
 record NewItem (t t' : Lists) (x : Named) : Type 0 where

@@ -8,7 +8,6 @@ use Rattle.std.proofs.Math.Seq.{drop-append_seam, take-length}
 use Rattle.spl_text.specs.declared.token.Token.{Token}
 use Rattle.spl_text.specs.declared.token.TokenKind.TheVariants as kind
 use Rattle.spl_tree.specs.declared.parts.StmtId.{StmtId}
-use Rattle.spl_tree.specs.declared.parts.ExprId.{ExprId}
 use Rattle.spl_tree.specs.declared.parts.Block.{Block}
 use Rattle.spl_tree.specs.declared.parts.DeclList.{DeclList}
 use Rattle.spl_tree.specs.declared.parts.MainTree.{MainTree}
@@ -22,6 +21,7 @@ use Rattle.spl_parser.specs.declared.state.Head.{Head}
 use Rattle.spl_parser.specs.declared.state.Head.TheVariants as head
 use Rattle.spl_parser.specs.declared.state.ProcHead.{ProcHead}
 use Rattle.spl_parser.specs.declared.state.Body.{Body}
+use Rattle.spl_parser.specs.declared.state.Front.{Front}
 use Rattle.spl_parser.specs.declared.state.Frame.{Frame}
 use Rattle.spl_parser.specs.declared.state.Frame.TheVariants as frame
 use Rattle.spl_parser.specs.declared.state.Closed.{Closed}
@@ -35,7 +35,7 @@ use Rattle.spl_parser.specs.Trees.{trees}
 use Rattle.spl_parser.specs.View.{stacked, word_of, head_of, ids_over, frame_of, body_of, closed_of, state_of, HeadIn, FrameIn, frame_held, BodyIn, ClosedIn, StateIn, state_waiting, Small, Ready, TokenIn, next_of, Reaches, Grows}
 use Rattle.spl_parser.proofs.Grow.{each_more, each_push}
 use Rattle.spl_parser.proofs.WantArms.{stacked-push}
-use Rattle.spl_parser.proofs.Stay.{grows_blocks, word_keeps, head_in, head_keeps, decls_in, block_in, block_keeps, expr_in, frames_in, frames_keep}
+use Rattle.spl_parser.proofs.Stay.{grows_blocks, word_keeps, head_in, head_keeps, decls_in, block_in, block_keeps, front_in, frames_in, frames_keep}
 
 -- the innermost open block
 pub innermost : (source : List ℕ) (r : Grown) (b : Body) (rest : List Frame) (f g : Frame) → b.frames.items ≡ rest ++ f ∷ [] → f ≡ g → stacked (frame_of source r) b.frames.items ≡ frame_of source r g ∷ stacked (frame_of source r) rest
@@ -139,25 +139,25 @@ reached : (source : List ℕ) (n : ℕ) (t : Lists) (s : State) (next next' : Op
 reached source n t s next next' e f tree small there = record { goes = e ∙ f; ready = record { tree = tree; small = small; there = there } }
 
 -- the second block of a conditional opens
-pub else_arm : (source : List ℕ) (t t' : Lists) (token : Token) (b b' : Body) (rest : List Frame) (f : Frame) (outer : Vec StmtId) (w : ℕ) (e : ExprId) (th : ℕ) (blk : Block) → token.kind ≡ kind.Else → b.frames.items ≡ rest ++ f ∷ [] → f ≡ frame.Then outer w e th → TokenIn token → Ready token.start t (state.InBlock b) → AddsBlock t t' b.stmts.items blk → b'.head ≡ b.head → b'.locals ≡ b.locals → b'.begin ≡ b.begin → b'.frames.items ≡ rest ++ frame.Else outer w e th blk token.end ∷ [] → b'.stmts.items ≡ [] → Reaches source token.end t' (state.InBlock b') (next_of source (grown t) (state.InBlock b) token)
+pub else_arm : (source : List ℕ) (t t' : Lists) (token : Token) (b b' : Body) (rest : List Frame) (f : Frame) (outer : Vec StmtId) (fr : Front) (blk : Block) → token.kind ≡ kind.Else → b.frames.items ≡ rest ++ f ∷ [] → f ≡ frame.Then outer fr → TokenIn token → Ready token.start t (state.InBlock b) → AddsBlock t t' b.stmts.items blk → b'.head ≡ b.head → b'.locals ≡ b.locals → b'.begin ≡ b.begin → b'.frames.items ≡ rest ++ frame.Else outer fr blk token.end ∷ [] → b'.stmts.items ≡ [] → Reaches source token.end t' (state.InBlock b') (next_of source (grown t) (state.InBlock b) token)
 unfolding on_else
-else_arm source t t' token b b' rest f outer w e th blk is split eq ok ready h e1 e2 e3 e4 e5 =
+else_arm source t t' token b b' rest f outer fr blk is split eq ok ready h e1 e2 e3 e4 e5 =
     let r : Grown = grown t in
     let r' : Grown = grown t' in
-    let g : Frame = frame.Then outer w e th in
-    let g' : Frame = frame.Else outer w e th blk token.end in
+    let g : Frame = frame.Then outer fr in
+    let g' : Frame = frame.Else outer fr blk token.end in
     let hb : BodyIn r b = ready.there in
     let i = inner r b rest f g split eq hb in
-    let kept : frame_of source r' g' ≡ m.in_else (ids_over r outer.items) w (expr_at r.exprs e) th (ids_over r b.stmts.items) token.end =
-    ap (λ y. m.in_else y w (expr_at r'.exprs e) th (block_over r'.blocks r'.stmts blk) token.end) (h.grows.stmts empty outer.items i.last.0)
-    ∙ (ap (λ y. m.in_else (ids_over r outer.items) w y th (block_over r'.blocks r'.stmts blk) token.end) (h.grows.exprs e i.last.2)
-    ∙ ap (λ y. m.in_else (ids_over r outer.items) w (expr_at r.exprs e) th y token.end) h.is) in
-    let stack : stacked (frame_of source r') b'.frames.items ≡ m.in_else (ids_over r outer.items) w (expr_at r.exprs e) th (ids_over r b.stmts.items) token.end ∷ stacked (frame_of source r) rest =
+    let kept : frame_of source r' g' ≡ m.in_else (ids_over r outer.items) fr.start (expr_at r.exprs fr.condition) fr.first (ids_over r b.stmts.items) token.end =
+    ap (λ y. m.in_else y fr.start (expr_at r'.exprs fr.condition) fr.first (block_over r'.blocks r'.stmts blk) token.end) (h.grows.stmts empty outer.items i.last.0)
+    ∙ (ap (λ y. m.in_else (ids_over r outer.items) fr.start y fr.first (block_over r'.blocks r'.stmts blk) token.end) (h.grows.exprs fr.condition i.last.1.1)
+    ∙ ap (λ y. m.in_else (ids_over r outer.items) fr.start (expr_at r.exprs fr.condition) fr.first y token.end) h.is) in
+    let stack : stacked (frame_of source r') b'.frames.items ≡ m.in_else (ids_over r outer.items) fr.start (expr_at r.exprs fr.condition) fr.first (ids_over r b.stmts.items) token.end ∷ stacked (frame_of source r) rest =
     ap (λ l. stacked (frame_of source r') l) e4 ∙ (stacked-push (frame_of source r') rest g'
     ∙ (ap (λ y. y ∷ stacked (frame_of source r') rest) kept
-    ∙ ap (λ l. m.in_else (ids_over r outer.items) w (expr_at r.exprs e) th (ids_over r b.stmts.items) token.end ∷ l) (frames_keep source r r' rest h.grows i.others))) in
+    ∙ ap (λ l. m.in_else (ids_over r outer.items) fr.start (expr_at r.exprs fr.condition) fr.first (ids_over r b.stmts.items) token.end ∷ l) (frames_keep source r r' rest h.grows i.others))) in
     let there : BodyIn r' b' = reshaped_in r r' b b' (rest ++ g' ∷ []) [] h.grows h.count hb e1 e2 e3 e4 e5
-    (each_push (λ k x. FrameIn r' x) rest g' (frames_in r r' rest h.grows i.others) (ids_in r r' outer.items h.grows i.last.0, i.last.1, expr_in r r' e h.grows i.last.2, i.last.3, h.there, ok.within))
+    (each_push (λ k x. FrameIn r' x) rest g' (frames_in r r' rest h.grows i.others) (ids_in r r' outer.items h.grows i.last.0, front_in r r' fr h.grows i.last.1, h.there, ok.within))
     (λ k d lt. absurd (omega arith)) (omega (arith, i.held, sum_by_push frame_held rest g')) in
     reached source token.end t' (state.InBlock b') _ _ (at_else_word source r b token _ is (innermost source r b rest f g split eq))
     (ap (λ y. Some (m.in_block y)) (sym (reshaped source r r' b b' _ empty h.grows hb e1 e2 e3 stack (ap (λ l. ids_over r' l) e5))))
@@ -176,40 +176,40 @@ closes_arm source t t' token b b' rest f g outer blk c mc goes goes' split eq id
     ∙ ap (λ y. Some (m.after_end (body_of source r' b') y)) (sym goes'))
     h.whole (block_small token.start token.end t t' b.stmts.items blk 1 ok.filled (omega arith) h (omega (arith, there.held)) ready.small) (there, hc)
 
-pub if_arm : (source : List ℕ) (t t' : Lists) (token : Token) (b b' : Body) (rest : List Frame) (f : Frame) (outer : Vec StmtId) (w : ℕ) (e : ExprId) (th : ℕ) (blk : Block) → token.kind ≡ kind.Endif → b.frames.items ≡ rest ++ f ∷ [] → f ≡ frame.Then outer w e th → TokenIn token → Ready token.start t (state.InBlock b) → AddsBlock t t' b.stmts.items blk → b'.head ≡ b.head → b'.locals ≡ b.locals → b'.begin ≡ b.begin → b'.frames.items ≡ rest → b'.stmts.items ≡ outer.items → Reaches source token.end t' (state.AfterEnd b' (closed.If w e th blk token.end)) (next_of source (grown t) (state.InBlock b) token)
+pub if_arm : (source : List ℕ) (t t' : Lists) (token : Token) (b b' : Body) (rest : List Frame) (f : Frame) (outer : Vec StmtId) (fr : Front) (blk : Block) → token.kind ≡ kind.Endif → b.frames.items ≡ rest ++ f ∷ [] → f ≡ frame.Then outer fr → TokenIn token → Ready token.start t (state.InBlock b) → AddsBlock t t' b.stmts.items blk → b'.head ≡ b.head → b'.locals ≡ b.locals → b'.begin ≡ b.begin → b'.frames.items ≡ rest → b'.stmts.items ≡ outer.items → Reaches source token.end t' (state.AfterEnd b' (closed.If fr blk token.end)) (next_of source (grown t) (state.InBlock b) token)
 unfolding on_endif
-if_arm source t t' token b b' rest f outer w e th blk is split eq ok ready h e1 e2 e3 e4 e5 =
-    let g : Frame = frame.Then outer w e th in
+if_arm source t t' token b b' rest f outer fr blk is split eq ok ready h e1 e2 e3 e4 e5 =
+    let g : Frame = frame.Then outer fr in
     let i = inner (grown t) b rest f g split eq ready.there in
-    closes_arm source t t' token b b' rest f g outer.items blk (closed.If w e th blk token.end) (m.closed_if w (expr_at (grown t).exprs e) th (ids_over (grown t) b.stmts.items) None token.end)
+    closes_arm source t t' token b b' rest f g outer.items blk (closed.If fr blk token.end) (m.closed_if fr.start (expr_at (grown t).exprs fr.condition) fr.first (ids_over (grown t) b.stmts.items) None token.end)
     (at_endif_word source (grown t) b token _ is (innermost source (grown t) b rest f g split eq))
-    (ap (λ y. m.closed_if w y th (block_over (grown t').blocks (grown t').stmts blk) None token.end) (h.grows.exprs e i.last.2) ∙ ap (λ y. m.closed_if w (expr_at (grown t).exprs e) th y None token.end) h.is)
+    (ap (λ y. m.closed_if fr.start y fr.first (block_over (grown t').blocks (grown t').stmts blk) None token.end) (h.grows.exprs fr.condition i.last.1.1) ∙ ap (λ y. m.closed_if fr.start (expr_at (grown t).exprs fr.condition) fr.first y None token.end) h.is)
     split eq i.last.0 refl ok ready h e1 e2 e3 e4 e5
-    (i.last.1, expr_in (grown t) (grown t') e h.grows i.last.2, i.last.3, h.there, ok.within)
+    (front_in (grown t) (grown t') fr h.grows i.last.1, h.there, ok.within)
 
-pub if_else_arm : (source : List ℕ) (t t' : Lists) (token : Token) (b b' : Body) (rest : List Frame) (f : Frame) (outer : Vec StmtId) (w : ℕ) (e : ExprId) (th : ℕ) (one : Block) (els : ℕ) (blk : Block) → token.kind ≡ kind.Endif → b.frames.items ≡ rest ++ f ∷ [] → f ≡ frame.Else outer w e th one els → TokenIn token → Ready token.start t (state.InBlock b) → AddsBlock t t' b.stmts.items blk → b'.head ≡ b.head → b'.locals ≡ b.locals → b'.begin ≡ b.begin → b'.frames.items ≡ rest → b'.stmts.items ≡ outer.items → Reaches source token.end t' (state.AfterEnd b' (closed.IfElse w e th one els blk token.end)) (next_of source (grown t) (state.InBlock b) token)
+pub if_else_arm : (source : List ℕ) (t t' : Lists) (token : Token) (b b' : Body) (rest : List Frame) (f : Frame) (outer : Vec StmtId) (fr : Front) (one : Block) (els : ℕ) (blk : Block) → token.kind ≡ kind.Endif → b.frames.items ≡ rest ++ f ∷ [] → f ≡ frame.Else outer fr one els → TokenIn token → Ready token.start t (state.InBlock b) → AddsBlock t t' b.stmts.items blk → b'.head ≡ b.head → b'.locals ≡ b.locals → b'.begin ≡ b.begin → b'.frames.items ≡ rest → b'.stmts.items ≡ outer.items → Reaches source token.end t' (state.AfterEnd b' (closed.IfElse fr one els blk token.end)) (next_of source (grown t) (state.InBlock b) token)
 unfolding on_endif
-if_else_arm source t t' token b b' rest f outer w e th one els blk is split eq ok ready h e1 e2 e3 e4 e5 =
-    let g : Frame = frame.Else outer w e th one els in
+if_else_arm source t t' token b b' rest f outer fr one els blk is split eq ok ready h e1 e2 e3 e4 e5 =
+    let g : Frame = frame.Else outer fr one els in
     let i = inner (grown t) b rest f g split eq ready.there in
-    closes_arm source t t' token b b' rest f g outer.items blk (closed.IfElse w e th one els blk token.end) (m.closed_if w (expr_at (grown t).exprs e) th (block_over (grown t).blocks (grown t).stmts one) (Some (els, ids_over (grown t) b.stmts.items)) token.end)
+    closes_arm source t t' token b b' rest f g outer.items blk (closed.IfElse fr one els blk token.end) (m.closed_if fr.start (expr_at (grown t).exprs fr.condition) fr.first (block_over (grown t).blocks (grown t).stmts one) (Some (els, ids_over (grown t) b.stmts.items)) token.end)
     (at_endif_word source (grown t) b token _ is (innermost source (grown t) b rest f g split eq))
-    (ap (λ y. m.closed_if w y th (block_over (grown t').blocks (grown t').stmts one) (Some (els, block_over (grown t').blocks (grown t').stmts blk)) token.end) (h.grows.exprs e i.last.2)
-    ∙ (ap (λ y. m.closed_if w (expr_at (grown t).exprs e) th y (Some (els, block_over (grown t').blocks (grown t').stmts blk)) token.end) (block_keeps (grown t) (grown t') one h.grows i.last.4)
-    ∙ ap (λ y. m.closed_if w (expr_at (grown t).exprs e) th (block_over (grown t).blocks (grown t).stmts one) (Some (els, y)) token.end) h.is))
+    (ap (λ y. m.closed_if fr.start y fr.first (block_over (grown t').blocks (grown t').stmts one) (Some (els, block_over (grown t').blocks (grown t').stmts blk)) token.end) (h.grows.exprs fr.condition i.last.1.1)
+    ∙ (ap (λ y. m.closed_if fr.start (expr_at (grown t).exprs fr.condition) fr.first y (Some (els, block_over (grown t').blocks (grown t').stmts blk)) token.end) (block_keeps (grown t) (grown t') one h.grows i.last.2)
+    ∙ ap (λ y. m.closed_if fr.start (expr_at (grown t).exprs fr.condition) fr.first (block_over (grown t).blocks (grown t).stmts one) (Some (els, y)) token.end) h.is))
     split eq i.last.0 refl ok ready h e1 e2 e3 e4 e5
-    (i.last.1, expr_in (grown t) (grown t') e h.grows i.last.2, i.last.3, block_in (grown t) (grown t') one h.grows i.last.4, i.last.5, h.there, ok.within)
+    (front_in (grown t) (grown t') fr h.grows i.last.1, block_in (grown t) (grown t') one h.grows i.last.2, i.last.3, h.there, ok.within)
 
-pub while_arm : (source : List ℕ) (t t' : Lists) (token : Token) (b b' : Body) (rest : List Frame) (f : Frame) (outer : Vec StmtId) (w : ℕ) (e : ExprId) (d : ℕ) (blk : Block) → token.kind ≡ kind.Done → b.frames.items ≡ rest ++ f ∷ [] → f ≡ frame.While outer w e d → TokenIn token → Ready token.start t (state.InBlock b) → AddsBlock t t' b.stmts.items blk → b'.head ≡ b.head → b'.locals ≡ b.locals → b'.begin ≡ b.begin → b'.frames.items ≡ rest → b'.stmts.items ≡ outer.items → Reaches source token.end t' (state.AfterEnd b' (closed.While w e d blk token.end)) (next_of source (grown t) (state.InBlock b) token)
+pub while_arm : (source : List ℕ) (t t' : Lists) (token : Token) (b b' : Body) (rest : List Frame) (f : Frame) (outer : Vec StmtId) (fr : Front) (blk : Block) → token.kind ≡ kind.Done → b.frames.items ≡ rest ++ f ∷ [] → f ≡ frame.While outer fr → TokenIn token → Ready token.start t (state.InBlock b) → AddsBlock t t' b.stmts.items blk → b'.head ≡ b.head → b'.locals ≡ b.locals → b'.begin ≡ b.begin → b'.frames.items ≡ rest → b'.stmts.items ≡ outer.items → Reaches source token.end t' (state.AfterEnd b' (closed.While fr blk token.end)) (next_of source (grown t) (state.InBlock b) token)
 unfolding on_done
-while_arm source t t' token b b' rest f outer w e d blk is split eq ok ready h e1 e2 e3 e4 e5 =
-    let g : Frame = frame.While outer w e d in
+while_arm source t t' token b b' rest f outer fr blk is split eq ok ready h e1 e2 e3 e4 e5 =
+    let g : Frame = frame.While outer fr in
     let i = inner (grown t) b rest f g split eq ready.there in
-    closes_arm source t t' token b b' rest f g outer.items blk (closed.While w e d blk token.end) (m.closed_while w (expr_at (grown t).exprs e) d (ids_over (grown t) b.stmts.items) token.end)
+    closes_arm source t t' token b b' rest f g outer.items blk (closed.While fr blk token.end) (m.closed_while fr.start (expr_at (grown t).exprs fr.condition) fr.first (ids_over (grown t) b.stmts.items) token.end)
     (at_done_word source (grown t) b token _ is (innermost source (grown t) b rest f g split eq))
-    (ap (λ y. m.closed_while w y d (block_over (grown t').blocks (grown t').stmts blk) token.end) (h.grows.exprs e i.last.2) ∙ ap (λ y. m.closed_while w (expr_at (grown t).exprs e) d y token.end) h.is)
+    (ap (λ y. m.closed_while fr.start y fr.first (block_over (grown t').blocks (grown t').stmts blk) token.end) (h.grows.exprs fr.condition i.last.1.1) ∙ ap (λ y. m.closed_while fr.start (expr_at (grown t).exprs fr.condition) fr.first y token.end) h.is)
     split eq i.last.0 refl ok ready h e1 e2 e3 e4 e5
-    (i.last.1, expr_in (grown t) (grown t') e h.grows i.last.2, i.last.3, h.there, ok.within)
+    (front_in (grown t) (grown t') fr h.grows i.last.1, h.there, ok.within)
 
 -- a body ends: not within a block; the program's; a procedure's
 pub end_none : (source : List ℕ) (r : Grown) (token : Token) (b : Body) → token.kind ≡ kind.End → 0 < length b.frames.items → next_of source r (state.InBlock b) token ≡ None

@@ -147,8 +147,8 @@ not_done source r (state.NamesNext b g first) never = tt
 not_done source r (state.NamesAfter b g first) never = tt
 not_done source r (state.TargetsAfter b o ns) never = tt
 not_done source r (state.Called b ts) never = tt
-not_done source r (state.CalledName b ts f) never = tt
-not_done source r (state.CallAfter b ts f ns) never = tt
+not_done source r (state.CalledName b h) never = tt
+not_done source r (state.CallAfter b h ns) never = tt
 not_done source r (state.AfterEnd b c) never = tt
 not_done source r (state.Finished t b) never = never t b refl
 

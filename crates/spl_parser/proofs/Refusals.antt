@@ -1,8 +1,8 @@
 -- A token of a kind that no clause of a state names is refused there.
 use Rattle.std.proofs.Common.{◌≡◌, ℕ, List, None, refl}
 use Rattle.spl_text.specs.declared.token.TokenKind.{TokenKind}
-use Rattle.spl_text.specs.declared.token.TokenKind.TheVariants.{Name, Number, Proc, Returns, Var, Begin, End, Int, Real, Skip, Halt, Fail, Assume, Random, Brandom, If, Then, Else, Endif, While, Do, Done, Not, And, Or, True, False, LeftParen, RightParen, Comma, Semicolon, Colon, Becomes, Equal, NotEqual, Less, LessEqual, Greater, GreaterEqual, Plus, Minus, Star, Slash, Percent}
-use Rattle.spl_parser.specs.Machine.{Algebra, Head, DeclGoal, Before, Body, Goal, Pending, Paren, Simple, Targets, NameGoal, at_start, at_begin, proc_word, proc_name, decl_open, decl_next, decl_name, decl_colon, decl_after, inputs_after, returns_word, in_block, simple, target, want, have, names_open, names_next, names_after, targets_after, called, called_name, call_after, step, step_start, step_begin, step_proc_word, step_proc_name, step_decl_open, step_decl_next, step_decl_name, step_decl_colon, step_decl_after, step_inputs_after, step_returns_word, step_block, step_simple, step_target, step_want, step_have, step_names_open, step_names_next, step_names_after, step_targets_after, step_called, step_called_name, step_call_after}
+use Rattle.spl_text.specs.declared.token.TokenKind.TheVariants.{Name, Number, Proc, Returns, Var, Begin, End, Int, Real, Skip, Halt, Fail, Assume, Random, Brandom, If, Else, Endif, While, Done, Not, True, False, LeftParen, RightParen, Comma, Semicolon, Colon, Becomes, Minus}
+use Rattle.spl_parser.specs.Machine.{Algebra, Head, DeclGoal, Before, Body, Goal, Pending, Paren, Simple, Targets, NameGoal, at_start, at_begin, proc_word, proc_name, decl_open, decl_next, decl_name, decl_colon, decl_after, inputs_after, returns_word, in_block, simple, target, want, names_open, names_next, names_after, targets_after, called, called_name, call_after, step, step_start, step_begin, step_proc_word, step_proc_name, step_decl_open, step_decl_next, step_decl_name, step_decl_colon, step_decl_after, step_inputs_after, step_returns_word, step_block, step_simple, step_target, step_want, step_names_open, step_names_next, step_names_after, step_targets_after, step_called, step_called_name, step_call_after}
 
 pub refuses_start : (A : Algebra) (h : Head A) (k : TokenKind) (l : A.Place) → (k ≡ Proc → ⊥) → (k ≡ Var → ⊥) → (k ≡ Begin → ⊥) → step A (at_start h) k l ≡ None
 unfolding step step_start
@@ -104,27 +104,6 @@ refuses_want A b g ps p LeftParen l h0 h1 h2 h3 h4 h5 h6 h7 h8 = absurd (h6 refl
 refuses_want A b g ps p Minus l h0 h1 h2 h3 h4 h5 h6 h7 h8 = absurd (h7 refl)
 refuses_want A b g ps p Not l h0 h1 h2 h3 h4 h5 h6 h7 h8 = absurd (h8 refl)
 refuses_want A b g ps p _ l h0 h1 h2 h3 h4 h5 h6 h7 h8 = refl
-
-pub refuses_have : (A : Algebra) (b : Body A) (g : Goal A) (ps : List (Paren A)) (p : Pending A) (a : A.Atom) (k : TokenKind) (l : A.Place) → (k ≡ Star → ⊥) → (k ≡ Slash → ⊥) → (k ≡ Percent → ⊥) → (k ≡ Plus → ⊥) → (k ≡ Minus → ⊥) → (k ≡ Equal → ⊥) → (k ≡ NotEqual → ⊥) → (k ≡ Less → ⊥) → (k ≡ LessEqual → ⊥) → (k ≡ Greater → ⊥) → (k ≡ GreaterEqual → ⊥) → (k ≡ And → ⊥) → (k ≡ Or → ⊥) → (k ≡ RightParen → ⊥) → (k ≡ Semicolon → ⊥) → (k ≡ Then → ⊥) → (k ≡ Do → ⊥) → step A (have b g ps p a) k l ≡ None
-unfolding step step_have
-refuses_have A b g ps p a Star l h0 h1 h2 h3 h4 h5 h6 h7 h8 h9 h10 h11 h12 h13 h14 h15 h16 = absurd (h0 refl)
-refuses_have A b g ps p a Slash l h0 h1 h2 h3 h4 h5 h6 h7 h8 h9 h10 h11 h12 h13 h14 h15 h16 = absurd (h1 refl)
-refuses_have A b g ps p a Percent l h0 h1 h2 h3 h4 h5 h6 h7 h8 h9 h10 h11 h12 h13 h14 h15 h16 = absurd (h2 refl)
-refuses_have A b g ps p a Plus l h0 h1 h2 h3 h4 h5 h6 h7 h8 h9 h10 h11 h12 h13 h14 h15 h16 = absurd (h3 refl)
-refuses_have A b g ps p a Minus l h0 h1 h2 h3 h4 h5 h6 h7 h8 h9 h10 h11 h12 h13 h14 h15 h16 = absurd (h4 refl)
-refuses_have A b g ps p a Equal l h0 h1 h2 h3 h4 h5 h6 h7 h8 h9 h10 h11 h12 h13 h14 h15 h16 = absurd (h5 refl)
-refuses_have A b g ps p a NotEqual l h0 h1 h2 h3 h4 h5 h6 h7 h8 h9 h10 h11 h12 h13 h14 h15 h16 = absurd (h6 refl)
-refuses_have A b g ps p a Less l h0 h1 h2 h3 h4 h5 h6 h7 h8 h9 h10 h11 h12 h13 h14 h15 h16 = absurd (h7 refl)
-refuses_have A b g ps p a LessEqual l h0 h1 h2 h3 h4 h5 h6 h7 h8 h9 h10 h11 h12 h13 h14 h15 h16 = absurd (h8 refl)
-refuses_have A b g ps p a Greater l h0 h1 h2 h3 h4 h5 h6 h7 h8 h9 h10 h11 h12 h13 h14 h15 h16 = absurd (h9 refl)
-refuses_have A b g ps p a GreaterEqual l h0 h1 h2 h3 h4 h5 h6 h7 h8 h9 h10 h11 h12 h13 h14 h15 h16 = absurd (h10 refl)
-refuses_have A b g ps p a And l h0 h1 h2 h3 h4 h5 h6 h7 h8 h9 h10 h11 h12 h13 h14 h15 h16 = absurd (h11 refl)
-refuses_have A b g ps p a Or l h0 h1 h2 h3 h4 h5 h6 h7 h8 h9 h10 h11 h12 h13 h14 h15 h16 = absurd (h12 refl)
-refuses_have A b g ps p a RightParen l h0 h1 h2 h3 h4 h5 h6 h7 h8 h9 h10 h11 h12 h13 h14 h15 h16 = absurd (h13 refl)
-refuses_have A b g ps p a Semicolon l h0 h1 h2 h3 h4 h5 h6 h7 h8 h9 h10 h11 h12 h13 h14 h15 h16 = absurd (h14 refl)
-refuses_have A b g ps p a Then l h0 h1 h2 h3 h4 h5 h6 h7 h8 h9 h10 h11 h12 h13 h14 h15 h16 = absurd (h15 refl)
-refuses_have A b g ps p a Do l h0 h1 h2 h3 h4 h5 h6 h7 h8 h9 h10 h11 h12 h13 h14 h15 h16 = absurd (h16 refl)
-refuses_have A b g ps p a _ l h0 h1 h2 h3 h4 h5 h6 h7 h8 h9 h10 h11 h12 h13 h14 h15 h16 = refl
 
 pub refuses_names_open : (A : Algebra) (b : Body A) (g : NameGoal A) (k : TokenKind) (l : A.Place) → (k ≡ Name → ⊥) → (k ≡ RightParen → ⊥) → step A (names_open b g) k l ≡ None
 unfolding step step_names_open

@@ -19,6 +19,7 @@ use Rattle.spl_parser.specs.declared.state.DeclGoal.{DeclGoal}
 use Rattle.spl_parser.specs.declared.state.DeclGoal.TheVariants as decl_goal
 use Rattle.spl_parser.specs.declared.state.Before.{Before}
 use Rattle.spl_parser.specs.declared.state.Before.TheVariants as before
+use Rattle.spl_parser.specs.declared.state.Front.{Front}
 use Rattle.spl_parser.specs.declared.state.Frame.{Frame}
 use Rattle.spl_parser.specs.declared.state.Frame.TheVariants as frame
 use Rattle.spl_parser.specs.declared.state.Body.{Body}
@@ -35,7 +36,7 @@ use Rattle.spl_parser.specs.declared.state.State.{State}
 use Rattle.spl_parser.specs.Growth.{Grown, grown, IdsIn, BlockIn, NamesIn, DeclsIn}
 use Rattle.spl_parser.specs.Machine as m
 use Rattle.spl_parser.specs.Trees.{trees}
-use Rattle.spl_parser.specs.View.{stacked, word_of, head_of, decl_goal_of, ids_over, frame_of, body_of, goal_of, side_of, left_of, pending_of, paren_of, targets_of, name_goal_of, state_of, ExprThere, WordIn, HeadIn, DeclGoalIn, BeforeIn, FrameIn, BodyIn, GoalIn, SideIn, LeftIn, PendingIn, TargetsIn, NameGoalIn, StateIn, state_waiting, Small, Ready, TokenIn, next_of, Reaches, Grows}
+use Rattle.spl_parser.specs.View.{stacked, word_of, head_of, decl_goal_of, ids_over, frame_of, body_of, goal_of, side_of, left_of, pending_of, paren_of, targets_of, name_goal_of, state_of, ExprThere, FrontIn, WordIn, HeadIn, DeclGoalIn, BeforeIn, FrameIn, BodyIn, GoalIn, SideIn, LeftIn, PendingIn, TargetsIn, NameGoalIn, StateIn, state_waiting, Small, Ready, TokenIn, next_of, Reaches, Grows}
 use Rattle.spl_parser.proofs.Grow.{each_head, each_tail, each_more, span_stays, name_stays, block_stays}
 
 -- each kind of growth
@@ -128,14 +129,17 @@ before_in r r' before.First g h = tt
 before_in r r' (before.After first) g h = omega (arith, g.decls_le)
 
 frame_keeps : (source : List ℕ) (r r' : Grown) (x : Frame) → Grows r r' → FrameIn r x → frame_of source r' x ≡ frame_of source r x
-frame_keeps source r r' (frame.Then ids w e t) g h = let a = g.stmts empty ids.items h.0 in let b = g.exprs e h.2 in cc
-frame_keeps source r r' (frame.Else ids w e t blk els) g h = let a = g.stmts empty ids.items h.0 in let b = g.exprs e h.2 in let c = block_keeps r r' blk g h.4 in cc
-frame_keeps source r r' (frame.While ids w e d) g h = let a = g.stmts empty ids.items h.0 in let b = g.exprs e h.2 in cc
+frame_keeps source r r' (frame.Then ids f) g h = let a = g.stmts empty ids.items h.0 in let b = g.exprs f.condition h.1.1 in cc
+frame_keeps source r r' (frame.Else ids f blk els) g h = let a = g.stmts empty ids.items h.0 in let b = g.exprs f.condition h.1.1 in let c = block_keeps r r' blk g h.2 in cc
+frame_keeps source r r' (frame.While ids f) g h = let a = g.stmts empty ids.items h.0 in let b = g.exprs f.condition h.1.1 in cc
+
+pub front_in : (r r' : Grown) (f : Front) → Grows r r' → FrontIn r f → FrontIn r' f
+front_in r r' f g h = (h.0, expr_in r r' f.condition g h.1, h.2)
 
 frame_in : (r r' : Grown) (x : Frame) → Grows r r' → FrameIn r x → FrameIn r' x
-frame_in r r' (frame.Then ids w e t) g h = (ids_in r r' ids.items g h.0, h.1, expr_in r r' e g h.2, h.3)
-frame_in r r' (frame.Else ids w e t blk els) g h = (ids_in r r' ids.items g h.0, h.1, expr_in r r' e g h.2, h.3, block_in r r' blk g h.4, h.5)
-frame_in r r' (frame.While ids w e d) g h = (ids_in r r' ids.items g h.0, h.1, expr_in r r' e g h.2, h.3)
+frame_in r r' (frame.Then ids f) g h = (ids_in r r' ids.items g h.0, front_in r r' f g h.1)
+frame_in r r' (frame.Else ids f blk els) g h = (ids_in r r' ids.items g h.0, front_in r r' f g h.1, block_in r r' blk g h.2, h.3)
+frame_in r r' (frame.While ids f) g h = (ids_in r r' ids.items g h.0, front_in r r' f g h.1)
 
 pub frames_keep : (source : List ℕ) (r r' : Grown) (xs : List Frame) → Grows r r' → Each (λ k f. FrameIn r f) xs → stacked (frame_of source r') xs ≡ stacked (frame_of source r) xs
 frames_keep source r r' [] g h = refl
@@ -215,11 +219,11 @@ targets_in r r' (targets.List o ns) g h = (h.0, names_in r r' ns g h.1)
 
 pub name_goal_keeps : (source : List ℕ) (r r' : Grown) (x : NameGoal) → Grows r r' → NameGoalIn r x → name_goal_of source r' x ≡ name_goal_of source r x
 name_goal_keeps source r r' (name_goal.Targets o) g h = refl
-name_goal_keeps source r r' (name_goal.Arguments ts f) g h = let a = targets_keep source r r' ts g h.0 in let b = word_keeps r r' f g h.1 in cc
+name_goal_keeps source r r' (name_goal.Arguments c) g h = let a = targets_keep source r r' c.targets g h.0 in let b = word_keeps r r' c.called g h.1 in cc
 
 pub name_goal_in : (r r' : Grown) (x : NameGoal) → Grows r r' → NameGoalIn r x → NameGoalIn r' x
 name_goal_in r r' (name_goal.Targets o) g h = h
-name_goal_in r r' (name_goal.Arguments ts f) g h = (targets_in r r' ts g h.0, word_in r r' f g h.1)
+name_goal_in r r' (name_goal.Arguments c) g h = (targets_in r r' c.targets g h.0, word_in r r' c.called g h.1)
 
 -- a machine's step at a token whose kind is known; what is small before a token stays small after it
 pub small_on : (n n' : ℕ) (r : Grown) (w w' : ℕ) → n < n' → w' ≤ w + 1 → Small n r w → Small n' r w'

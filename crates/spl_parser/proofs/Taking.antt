@@ -5,10 +5,10 @@ use Rattle.spl_text.specs.declared.token.Token.{Token}
 use Rattle.spl_text.specs.declared.token.TokenKind.{TokenKind}
 use Rattle.spl_text.specs.declared.token.TokenKind.TheVariants.{Name, Number, Proc, Returns, Var, Begin, End, Int, Real, Skip, Halt, Fail, Assume, Random, Brandom, If, Then, Else, Endif, While, Do, Done, Not, And, Or, True, False, LeftParen, RightParen, Comma, Semicolon, Colon, Becomes, Equal, NotEqual, Less, LessEqual, Greater, GreaterEqual, Plus, Minus, Star, Slash, Percent}
 use Rattle.spl_parser.specs.Grammar.{Leaf, TypeWord, Decls, OptDecls, no_decls, some_decls, Vars, Names, OptNames, no_names, some_names, Cmp, equal, not_equal, less, less_equal, greater, greater_equal, SumSign, ProductSign, E0, E1, E2, E4, E5, E6, Atom, name_atom, OptSemicolon, no_semicolon, a_semicolon, Stmts, Stmt, Procs}
-use Rattle.spl_parser.specs.Spelling.{token, spelled_type, spelled_decls, spelled_opt_decls, spelled_vars, spelled_opt_names, spelled_cmp, spelled_0, spelled_1, spelled_2, spelled_3, spelled_4, spelled_5, spelled_6, spelled_atom, spelled_semicolon, spelled_stmts, spelled_stmt}
+use Rattle.spl_parser.specs.Spelling.{token, spelled_type, spelled_decls, spelled_opt_decls, spelled_vars, spelled_opt_names, spelled_cmp, spelled_0, spelled_1, spelled_2, spelled_3, spelled_4, spelled_5, spelled_6, spelled_semicolon, spelled_stmts, spelled_stmt}
 use Rattle.spl_parser.specs.Machine.{Head, main_head, proc_head, DeclGoal, inputs_of, outputs_of, vars_of, Before, at_first, after, Frame, in_then, in_else, in_while, Body, Goal, assume_goal, assign_goal, if_goal, while_goal, Pending, Paren, Simple, skip_word, halt_word, fail_word, Targets, one_target, target_list, NameGoal, target_names, argument_names, Closed, closed_if, closed_while, State, at_start, at_begin, proc_word, proc_name, decl_open, decl_next, decl_name, decl_colon, decl_after, inputs_after, returns_word, in_block, simple, target, assign_start, assign_name, want, have, names_open, names_next, names_after, targets_after, called, called_name, call_after, after_end, done, nothing_before, under_minuses, under_nots, with_product, with_sum, with_cmp, with_both, with_either, closed_0, with_stmt, with_decl, finished, simple_stmt, call_stmt_of, step, starts_proc, step_start, step_begin, step_proc_word, step_proc_name, decls_close, vars_close, step_decl_open, step_decl_next, step_decl_name, step_decl_colon, step_decl_after, step_inputs_after, step_returns_word, on_else, on_endif, on_done, body_close, on_end, step_block, step_simple, step_target, on_not, step_want, on_cmp, on_right, on_semicolon, on_then, on_do, step_have, step_assign_start, step_assign_name, names_close, step_names_open, step_names_next, step_names_after, step_targets_after, step_called, step_called_name, step_call_after, step_after_end}
 use Rattle.spl_parser.proofs.Algebras.{derivations}
-use Rattle.spl_parser.proofs.Taken.{head_taken, decl_goal_taken, before_taken, frames_taken, body_taken, either_taken, both_taken, cmp_taken, sum_taken, product_taken, words_taken, pending_taken, simple_taken, targets_taken, name_goal_taken, closed_taken, taken, Takes}
+use Rattle.spl_parser.proofs.Taken.{head_taken, decl_goal_taken, before_taken, frames_taken, body_taken, either_taken, both_taken, cmp_taken, sum_taken, product_taken, words_taken, simple_taken, targets_taken, name_goal_taken, closed_taken, taken, Takes}
 
 ruleset flat = (append_assoc, append-nil)
 
@@ -164,10 +164,6 @@ words_taken-more : (k : TokenKind) (ls : List Leaf) (l : Leaf) → words_taken k
 words_taken-more k [] l = refl
 words_taken-more k (m ∷ ls) l = ap (λ r. token k m ∷ r) (words_taken-more k ls l)
 
--- what is taken before an operand of which only the outer levels stand
-abbrev outer_taken : Pending derivations → List Token
-outer_taken p = either_taken p.either_left ++ (both_taken p.both_left ++ words_taken Not p.nots)
-
 takes_not : (b : Body derivations) (g : Goal derivations) (ps : List (Paren derivations)) (p : Pending derivations) (c : Option (E4 × Cmp)) (s : Option (E4 × SumSign)) (q : Option (E5 × ProductSign)) (ms : List Leaf) (l : Leaf) → p.cmp_left ≡ c → p.sum_left ≡ s → p.product_left ≡ q → p.minuses ≡ ms → Takes (on_not derivations b g ps p c s q ms l) (taken (want b g ps p)) Not l
 unfolding taken on_not
 takes_not b g ps p None None None [] l hc hs hq hm = simp (hc, hs, hq, hm, words_taken-more, flat)
@@ -219,9 +215,6 @@ spelled-with_either None e = refl
 spelled-with_either (Some x) e = simp flat
 
 ruleset closing = (spelled-under_minuses, spelled-under_nots, spelled-with_product, spelled-with_sum, spelled-with_cmp, spelled-with_both, spelled-with_either, append_assoc, append-nil)
-
-pub spelled-closed_0 : (p : Pending derivations) (a : Atom) → spelled_0 (closed_0 derivations p a) ≡ pending_taken p ++ spelled_atom a
-spelled-closed_0 p a = simp closing
 
 takes_cmp : (b : Body derivations) (g : Goal derivations) (ps : List (Paren derivations)) (p : Pending derivations) (a : Atom) (c : Option (E4 × Cmp)) (s : Cmp) (k : TokenKind) (l : Leaf) → p.cmp_left ≡ c → spelled_cmp s ≡ token k l → Takes (on_cmp derivations b g ps p a c s) (taken (have b g ps p a)) k l
 unfolding taken on_cmp

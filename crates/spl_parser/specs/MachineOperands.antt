@@ -1,7 +1,7 @@
 -- Operands that close, and what stands before one: the levels of operators.
 use Rattle.std.specs.Prelude.{List, [], ◌∷◌, Option, Some, None}
 use Rattle.spl_parser.specs.Algebra.{Algebra}
-use Rattle.spl_parser.specs.MachineStates.{after, Pending}
+use Rattle.spl_parser.specs.MachineStates.{Pending}
 
 -- nothing before an operand
 abbrev pub nothing_before : (A : Algebra) → Pending A

@@ -1,5 +1,5 @@
 -- What was read of a list of tokens, and what the parser's answers say.
-use Rattle.std.specs.Prelude.{◌≡◌, ℕ, List, [], take, length, Some}
+use Rattle.std.specs.Prelude.{◌≡◌, ℕ, List, [], take, Some}
 use Rattle.spl_text.specs.declared.token.Token.{Token}
 use Rattle.spl_tree.specs.Lists.{Lists}
 use Rattle.spl_parser.specs.declared.state.State.{State}

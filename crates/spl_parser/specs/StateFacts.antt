@@ -1,5 +1,5 @@
 -- What a state and the parts keep between two tokens: what is named is there, and nothing is larger than the text so far.
-use Rattle.std.specs.Prelude.{ℕ, ◌+◌, ◌-◌, ◌≡◌, ◌≤◌, ◌<◌, ◌^◌, length, sum_by, Option, Some, None}
+use Rattle.std.specs.Prelude.{ℕ, ◌+◌, ◌≡◌, ◌≤◌, ◌<◌, ◌^◌, length, sum_by, Option, Some, None}
 use Rattle.spl_text.specs.declared.token.Token.{Token}
 use Rattle.spl_text.specs.declared.token.TokenKind.TheVariants.{Number}
 use Rattle.spl_tree.specs.declared.parts.ExprId.{ExprId}
@@ -12,6 +12,7 @@ use Rattle.spl_parser.specs.declared.state.DeclGoal.{DeclGoal}
 use Rattle.spl_parser.specs.declared.state.DeclGoal.TheVariants as decl_goal
 use Rattle.spl_parser.specs.declared.state.Before.{Before}
 use Rattle.spl_parser.specs.declared.state.Before.TheVariants as before
+use Rattle.spl_parser.specs.declared.state.Front.{Front}
 use Rattle.spl_parser.specs.declared.state.Frame.{Frame}
 use Rattle.spl_parser.specs.declared.state.Frame.TheVariants as frame
 use Rattle.spl_parser.specs.declared.state.Body.{Body}
@@ -24,6 +25,7 @@ use Rattle.spl_parser.specs.declared.state.Simple.{Simple}
 use Rattle.spl_parser.specs.declared.state.Simple.TheVariants as simple
 use Rattle.spl_parser.specs.declared.state.Targets.{Targets}
 use Rattle.spl_parser.specs.declared.state.Targets.TheVariants as targets
+use Rattle.spl_parser.specs.declared.state.CallHead.{CallHead}
 use Rattle.spl_parser.specs.declared.state.NameGoal.{NameGoal}
 use Rattle.spl_parser.specs.declared.state.NameGoal.TheVariants as name_goal
 use Rattle.spl_parser.specs.declared.state.Closed.{Closed}
@@ -31,7 +33,6 @@ use Rattle.spl_parser.specs.declared.state.Closed.TheVariants as closed
 use Rattle.spl_parser.specs.declared.state.State.{State}
 use Rattle.spl_parser.specs.declared.state.State.TheVariants as state
 use Rattle.spl_parser.specs.Growth.{Grown, grown, IdsIn, BlockIn, NamesIn, DeclsIn, NameIn}
-use Rattle.spl_parser.specs.TreeOf.{named}
 
 -- What a state names is there.
 abbrev pub ExprThere : Grown → ExprId → Type 0
@@ -53,16 +54,19 @@ abbrev pub BeforeIn : Grown → Before → Type 0
 BeforeIn r before.First = Unit {0}
 BeforeIn r (before.After first) = first ≤ length r.decls
 
+abbrev pub FrontIn : Grown → Front → Type 0
+FrontIn r f = IsPlace f.start × ExprThere r f.condition × IsPlace f.first
+
 abbrev pub FrameIn : Grown → Frame → Type 0
-FrameIn r (frame.Then ids w e t) = IdsIn (length r.stmts) ids.items × IsPlace w × ExprThere r e × IsPlace t
-FrameIn r (frame.Else ids w e t b els) = IdsIn (length r.stmts) ids.items × IsPlace w × ExprThere r e × IsPlace t × BlockIn r b × IsPlace els
-FrameIn r (frame.While ids w e d) = IdsIn (length r.stmts) ids.items × IsPlace w × ExprThere r e × IsPlace d
+FrameIn r (frame.Then ids f) = IdsIn (length r.stmts) ids.items × FrontIn r f
+FrameIn r (frame.Else ids f b els) = IdsIn (length r.stmts) ids.items × FrontIn r f × BlockIn r b × IsPlace els
+FrameIn r (frame.While ids f) = IdsIn (length r.stmts) ids.items × FrontIn r f
 
 -- how many statements an open block, and a body, hold that stand in no block yet
 abbrev pub frame_held : Frame → ℕ
-frame_held (frame.Then ids w e t) = length ids.items
-frame_held (frame.Else ids w e t b els) = length ids.items
-frame_held (frame.While ids w e d) = length ids.items
+frame_held (frame.Then ids f) = length ids.items
+frame_held (frame.Else ids f b els) = length ids.items
+frame_held (frame.While ids f) = length ids.items
 
 abbrev pub body_held : Body → ℕ
 body_held b = length b.stmts.items + sum_by frame_held b.frames.items
@@ -115,14 +119,17 @@ abbrev pub TargetsIn : Grown → Targets → Type 0
 TargetsIn r (targets.One x) = WordIn r x
 TargetsIn r (targets.List o ns) = IsPlace o × NamesIn r ns
 
+abbrev pub CallHeadIn : Grown → CallHead → Type 0
+CallHeadIn r h = TargetsIn r h.targets × WordIn r h.called
+
 abbrev pub NameGoalIn : Grown → NameGoal → Type 0
 NameGoalIn r (name_goal.Targets o) = IsPlace o
-NameGoalIn r (name_goal.Arguments ts f) = TargetsIn r ts × WordIn r f
+NameGoalIn r (name_goal.Arguments h) = CallHeadIn r h
 
 abbrev pub ClosedIn : Grown → Closed → Type 0
-ClosedIn r (closed.If w e t b f) = IsPlace w × ExprThere r e × IsPlace t × BlockIn r b × IsPlace f
-ClosedIn r (closed.IfElse w e t b els c f) = IsPlace w × ExprThere r e × IsPlace t × BlockIn r b × IsPlace els × BlockIn r c × IsPlace f
-ClosedIn r (closed.While w e d b f) = IsPlace w × ExprThere r e × IsPlace d × BlockIn r b × IsPlace f
+ClosedIn r (closed.If f b end) = FrontIn r f × BlockIn r b × IsPlace end
+ClosedIn r (closed.IfElse f b els c end) = FrontIn r f × BlockIn r b × IsPlace els × BlockIn r c × IsPlace end
+ClosedIn r (closed.While f b end) = FrontIn r f × BlockIn r b × IsPlace end
 
 abbrev pub StateIn : Grown → State → Type 0
 StateIn r (state.Start h) = HeadIn r h
@@ -148,8 +155,8 @@ StateIn r (state.NamesNext b g first) = BodyIn r b × NameGoalIn r g × (first �
 StateIn r (state.NamesAfter b g first) = BodyIn r b × NameGoalIn r g × (first ≤ length r.named)
 StateIn r (state.TargetsAfter b o ns) = BodyIn r b × IsPlace o × NamesIn r ns
 StateIn r (state.Called b ts) = BodyIn r b × TargetsIn r ts
-StateIn r (state.CalledName b ts f) = BodyIn r b × TargetsIn r ts × WordIn r f
-StateIn r (state.CallAfter b ts f ns) = BodyIn r b × TargetsIn r ts × WordIn r f × NamesIn r ns
+StateIn r (state.CalledName b h) = BodyIn r b × CallHeadIn r h
+StateIn r (state.CallAfter b h ns) = BodyIn r b × CallHeadIn r h × NamesIn r ns
 StateIn r (state.AfterEnd b c) = BodyIn r b × ClosedIn r c
 StateIn r (state.Finished t b) = DeclsIn r t.locals × IsPlace b × BlockIn r t.body
 

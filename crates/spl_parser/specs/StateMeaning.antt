@@ -1,5 +1,5 @@
 -- What the parser's states stand for: a state of the machine over trees, through the meaning of the lists so far.
-use Rattle.std.specs.Prelude.{ℕ, ◌+◌, ◌-◌, List, [], ◌∷◌, ◌++◌, drop, Option, Some, None}
+use Rattle.std.specs.Prelude.{ℕ, List, [], ◌∷◌, ◌++◌, drop, Option, Some, None}
 use Rattle.spl_tree.specs.declared.parts.StmtId.{StmtId}
 use Rattle.spl_tree.specs.declared.parts.BinOp.{BinOp}
 use Rattle.spl_tree.specs.Program.{Named, ExprTree, BlockTree, empty}
@@ -61,9 +61,9 @@ abbrev pub ids_over : Grown → List StmtId → BlockTree
 ids_over r ids = block_after r.stmts empty ids
 
 abbrev pub frame_of : (source : List ℕ) → Grown → Frame → m.Frame (trees source)
-frame_of source r (frame.Then ids w e t) = m.in_then (ids_over r ids.items) w (expr_at r.exprs e) t
-frame_of source r (frame.Else ids w e t b els) = m.in_else (ids_over r ids.items) w (expr_at r.exprs e) t (block_over r.blocks r.stmts b) els
-frame_of source r (frame.While ids w e d) = m.in_while (ids_over r ids.items) w (expr_at r.exprs e) d
+frame_of source r (frame.Then ids f) = m.in_then (ids_over r ids.items) f.start (expr_at r.exprs f.condition) f.first
+frame_of source r (frame.Else ids f b els) = m.in_else (ids_over r ids.items) f.start (expr_at r.exprs f.condition) f.first (block_over r.blocks r.stmts b) els
+frame_of source r (frame.While ids f) = m.in_while (ids_over r ids.items) f.start (expr_at r.exprs f.condition) f.first
 
 abbrev pub body_of : (source : List ℕ) → Grown → Body → m.Body (trees source)
 body_of source r b = record {
@@ -113,12 +113,12 @@ targets_of source r (targets.List o ns) = m.target_list o (names_over r.named ns
 
 abbrev pub name_goal_of : (source : List ℕ) → Grown → NameGoal → m.NameGoal (trees source)
 name_goal_of source r (name_goal.Targets o) = m.target_names o
-name_goal_of source r (name_goal.Arguments ts f) = m.argument_names (targets_of source r ts) (word_of r f) tt
+name_goal_of source r (name_goal.Arguments h) = m.argument_names (targets_of source r h.targets) (word_of r h.called) tt
 
 abbrev pub closed_of : (source : List ℕ) → Grown → Closed → m.Closed (trees source)
-closed_of source r (closed.If w e t b f) = m.closed_if w (expr_at r.exprs e) t (block_over r.blocks r.stmts b) None f
-closed_of source r (closed.IfElse w e t b els c f) = m.closed_if w (expr_at r.exprs e) t (block_over r.blocks r.stmts b) (Some (els, block_over r.blocks r.stmts c)) f
-closed_of source r (closed.While w e d b f) = m.closed_while w (expr_at r.exprs e) d (block_over r.blocks r.stmts b) f
+closed_of source r (closed.If f b end) = m.closed_if f.start (expr_at r.exprs f.condition) f.first (block_over r.blocks r.stmts b) None end
+closed_of source r (closed.IfElse f b els c end) = m.closed_if f.start (expr_at r.exprs f.condition) f.first (block_over r.blocks r.stmts b) (Some (els, block_over r.blocks r.stmts c)) end
+closed_of source r (closed.While f b end) = m.closed_while f.start (expr_at r.exprs f.condition) f.first (block_over r.blocks r.stmts b) end
 
 -- a state
 abbrev pub state_of : (source : List ℕ) → Grown → State → m.State (trees source)
@@ -145,7 +145,7 @@ state_of source r (state.NamesNext b g first) = m.names_next (body_of source r b
 state_of source r (state.NamesAfter b g first) = m.names_after (body_of source r b) (name_goal_of source r g) (drop first r.named)
 state_of source r (state.TargetsAfter b o ns) = m.targets_after (body_of source r b) o (names_over r.named ns) tt
 state_of source r (state.Called b ts) = m.called (body_of source r b) (targets_of source r ts)
-state_of source r (state.CalledName b ts f) = m.called_name (body_of source r b) (targets_of source r ts) (word_of r f)
-state_of source r (state.CallAfter b ts f ns) = m.call_after (body_of source r b) (targets_of source r ts) (word_of r f) tt (names_over r.named ns) tt
+state_of source r (state.CalledName b h) = m.called_name (body_of source r b) (targets_of source r h.targets) (word_of r h.called)
+state_of source r (state.CallAfter b h ns) = m.call_after (body_of source r b) (targets_of source r h.targets) (word_of r h.called) tt (names_over r.named ns) tt
 state_of source r (state.AfterEnd b c) = m.after_end (body_of source r b) (closed_of source r c)
 state_of source r (state.Finished t b) = m.done (record { procs = r.procs; locals = decls_over r.decls t.locals; begin = b; body = block_over r.blocks r.stmts t.body })

@@ -1,5 +1,5 @@
 -- What the parser does with operands and operators that wait.
-use Rattle.std.specs.Prelude.{ℕ, ◌+◌, ◌-◌, ◌≡◌, List, [], ◌∷◌, ◌++◌, length, Option, Some, None, Bool, false, ◌==◌}
+use Rattle.std.specs.Prelude.{ℕ, ◌+◌, ◌≡◌, List, [], ◌∷◌, ◌++◌, length, Option, Some, None, Bool, false, ◌==◌}
 use Rattle.spl_text.specs.declared.token.TokenKind.{TokenKind}
 use Rattle.spl_text.specs.declared.token.TokenKind.TheVariants.{Star, Slash, Percent, Plus, Minus, Equal, NotEqual, Less, LessEqual, Greater, GreaterEqual, And, Or, RightParen, Semicolon, Then, Do}
 use Rattle.spl_tree.specs.declared.parts.ExprId.{ExprId}

@@ -110,7 +110,7 @@ ClosesDecls g ds r = Answers (decls_end g ds) r
 -- the state after the `)` of a list of names
 abbrev pub names_end : Body → NameGoal → NameList → State
 names_end b (name_goal.Targets o) ns = state.TargetsAfter b o ns
-names_end b (name_goal.Arguments ts f) ns = state.CallAfter b ts f ns
+names_end b (name_goal.Arguments h) ns = state.CallAfter b h ns
 
 -- the span from this item on, of a list of this length
 abbrev pub RestOf : ℕ → ℕ → ℕ → ℕ → Type 0
@@ -144,16 +144,16 @@ pub record OpensBlock (b : Body) (f : Frame) (b' : Body) : Type 0 where
 
 -- the statement that a conditional or a loop is, its places up to an end, and where its last word ends
 abbrev pub closed_stmt : Closed → Stmt
-closed_stmt (closed.If w e t b f) = stmt.If e b None
-closed_stmt (closed.IfElse w e t b els c f) = stmt.If e b (Some c)
-closed_stmt (closed.While w e d b f) = stmt.While e b
+closed_stmt (closed.If f b end) = stmt.If f.condition b None
+closed_stmt (closed.IfElse f b els c end) = stmt.If f.condition b (Some c)
+closed_stmt (closed.While f b end) = stmt.While f.condition b
 
 abbrev pub closed_place : Closed → ℕ → StmtAt
-closed_place (closed.If w e t b f) end = block_at w t w end
-closed_place (closed.IfElse w e t b els c f) end = block_at w t els end
-closed_place (closed.While w e d b f) end = block_at w d w end
+closed_place (closed.If f b word) end = block_at f.start f.first f.start end
+closed_place (closed.IfElse f b els c word) end = block_at f.start f.first els end
+closed_place (closed.While f b word) end = block_at f.start f.first f.start end
 
 abbrev pub closed_word : Closed → ℕ
-closed_word (closed.If w e t b f) = f
-closed_word (closed.IfElse w e t b els c f) = f
-closed_word (closed.While w e d b f) = f
+closed_word (closed.If f b end) = end
+closed_word (closed.IfElse f b els c end) = end
+closed_word (closed.While f b end) = end

@@ -8,8 +8,8 @@ ghost use Rattle.spl_parser.specs.TreeOf.{plain_at, call_at, block_at};
 ghost use Rattle.spl_parser.specs.View.{BodyIn, AddsStmt, OpensBlock};
 
 use crate::growing::add_stmt;
-use crate::state::{Body, Frame};
-use spl_tree::{ExprId, Stmt, StmtAt, StmtId, TreeParts};
+use crate::state::{Body, Frame, Front};
+use spl_tree::{Stmt, StmtAt, StmtId, TreeParts};
 use std::alloc::{AllocError, Global};
 
 /// The places of a statement without blocks.
@@ -100,14 +100,8 @@ pub fn finish_stmt(
 }
 
 /// The body with an open conditional.
-pub fn open_then(
-    alloc: Global,
-    body: Body,
-    start: usize,
-    condition: ExprId,
-    stop: usize,
-) -> Result<Body, AllocError>
-    ensures { IfOk result (λ b. OpensBlock body (Frame.Then body.stmts start condition stop) b) }
+pub fn open_then(alloc: Global, body: Body, front: Front) -> Result<Body, AllocError>
+    ensures { IfOk result (λ b. OpensBlock body (Frame.Then body.stmts front) b) }
 {
     let Body {
         head,
@@ -120,9 +114,7 @@ pub fn open_then(
         frames,
         Frame::Then {
             outer: stmts,
-            start,
-            condition,
-            first: stop,
+            front,
         },
     )?;
     Ok(Body {
@@ -135,14 +127,8 @@ pub fn open_then(
 }
 
 /// The body with an open loop.
-pub fn open_while(
-    alloc: Global,
-    body: Body,
-    start: usize,
-    condition: ExprId,
-    stop: usize,
-) -> Result<Body, AllocError>
-    ensures { IfOk result (λ b. OpensBlock body (Frame.While body.stmts start condition stop) b) }
+pub fn open_while(alloc: Global, body: Body, front: Front) -> Result<Body, AllocError>
+    ensures { IfOk result (λ b. OpensBlock body (Frame.While body.stmts front) b) }
 {
     let Body {
         head,
@@ -155,9 +141,7 @@ pub fn open_while(
         frames,
         Frame::While {
             outer: stmts,
-            start,
-            condition,
-            first: stop,
+            front,
         },
     )?;
     Ok(Body {

@@ -8,7 +8,7 @@ ghost use Rattle.spl_parser.specs.View.{Follows, Ready, TokenIn, Steps, BodyIn, 
 
 use crate::blocks::{block_places, call_places, finish_stmt, plain_places};
 use crate::growing::add_named;
-use crate::state::{Body, Closed, Simple, State, Stop, Targets, Word};
+use crate::state::{Body, CallHead, Closed, Simple, State, Stop, Targets};
 use spl_text::{Token, TokenKind};
 use spl_tree::{NameList, Stmt, TreeParts};
 use std::alloc::AllocError;
@@ -50,35 +50,34 @@ pub fn at_single(
 pub fn at_call_after(
     parts: &mut TreeParts,
     body: Body,
-    targets: Targets,
-    called: Word,
+    call: CallHead,
     arguments: NameList,
     token: Token,
 ) -> Result<State, Stop>
-    requires ready { Ready token.start (lists_of parts.old) (State.CallAfter body targets called arguments) }
+    requires ready { Ready token.start (lists_of parts.old) (State.CallAfter body call arguments) }
     requires token { TokenIn token }
-    ensures { (source : List ℕ) → Steps source (lists_of parts.old) (State.CallAfter body targets called arguments) token (lists_of parts.new) result }
+    ensures { (source : List ℕ) → Steps source (lists_of parts.old) (State.CallAfter body call arguments) token (lists_of parts.new) result }
 {
     match token.kind {
-        TokenKind::Semicolon => match targets {
+        TokenKind::Semicolon => match call.targets {
             Targets::One(target) => {
                 let first = add_named(parts, target.name, target.at)?;
                 let list = NameList { first, count: 1 };
-                let places = call_places(target.at, called.at, token.end);
+                let places = call_places(target.at, call.called.at, token.end);
                 let next = finish_stmt(
                     parts,
                     body,
-                    Stmt::Call(list, called.name, arguments),
+                    Stmt::Call(list, call.called.name, arguments),
                     places,
                 )?;
                 Ok(State::InBlock(next))
             }
             Targets::List(start, list) => {
-                let places = call_places(start, called.at, token.end);
+                let places = call_places(start, call.called.at, token.end);
                 let next = finish_stmt(
                     parts,
                     body,
-                    Stmt::Call(list, called.name, arguments),
+                    Stmt::Call(list, call.called.name, arguments),
                     places,
                 )?;
                 Ok(State::InBlock(next))
@@ -103,39 +102,26 @@ pub fn finish_closed(
     ensures { IfOk result (λ b. AddsStmt (lists_of parts.old) (lists_of parts.new) body (closed_stmt closed) (closed_place closed end) b) }
 {
     match closed {
-        Closed::If {
-            start,
-            condition,
-            first,
-            block,
-            end: _,
-        } => {
-            let places = block_places(start, first, start, end);
-            let next = finish_stmt(parts, body, Stmt::If(condition, block, None), places)?;
+        Closed::If { front, block, .. } => {
+            let places = block_places(front.start, front.first, front.start, end);
+            let next = finish_stmt(parts, body, Stmt::If(front.condition, block, None), places)?;
             Ok(next)
         }
         Closed::IfElse {
-            start,
-            condition,
-            first,
+            front,
             block,
             second,
             other,
-            end: _,
+            ..
         } => {
-            let places = block_places(start, first, second, end);
-            let next = finish_stmt(parts, body, Stmt::If(condition, block, Some(other)), places)?;
+            let places = block_places(front.start, front.first, second, end);
+            let conditional = Stmt::If(front.condition, block, Some(other));
+            let next = finish_stmt(parts, body, conditional, places)?;
             Ok(next)
         }
-        Closed::While {
-            start,
-            condition,
-            first,
-            block,
-            end: _,
-        } => {
-            let places = block_places(start, first, start, end);
-            let next = finish_stmt(parts, body, Stmt::While(condition, block), places)?;
+        Closed::While { front, block, .. } => {
+            let places = block_places(front.start, front.first, front.start, end);
+            let next = finish_stmt(parts, body, Stmt::While(front.condition, block), places)?;
             Ok(next)
         }
     }

@@ -2,7 +2,7 @@
 
 ghost use Rattle.std.specs.Prelude.{◌≡◌, ◌<◌, ◌≤◌, ◌+◌, ◌*◌, ◌^◌, length, List, ℕ, IfOk, [], ◌∷◌, ◌++◌};
 ghost use Rattle.spl_tree.specs.Lists.{lists_of};
-ghost use Rattle.spl_parser.specs.View.{Ready, TokenIn, Steps, IsFresh, AddsMinus, AddsNot, nothing_within};
+ghost use Rattle.spl_parser.specs.View.{Ready, TokenIn, Steps, Follows, IsFresh, AddsMinus, AddsNot, nothing_within};
 
 use crate::growing::add_expr;
 use crate::state::{Body, Goal, OpenExpr, Pending, State, Stop};
@@ -95,33 +95,51 @@ pub fn at_want(
             let atom = add_expr(parts, Expr::Random, token.start)?;
             Ok(State::Have(expr, atom))
         }
-        TokenKind::LeftParen => {
-            let outer = with_paren(expr.parens, expr.pending)?;
-            Ok(State::Want(OpenExpr {
-                parens: outer,
-                pending: nothing_before(alloc),
-                ..expr
-            }))
-        }
-        TokenKind::Minus => {
-            let next = with_minus(expr.pending, token.start)?;
-            Ok(State::Want(OpenExpr {
-                pending: next,
-                ..expr
-            }))
-        }
-        TokenKind::Not => {
-            if !takes_not(&expr.pending) {
-                return Err(Stop::Syntax);
-            }
-            let next = with_not(expr.pending, token.start)?;
-            Ok(State::Want(OpenExpr {
-                pending: next,
-                ..expr
-            }))
-        }
+        TokenKind::LeftParen => at_left(alloc, expr, token),
+        TokenKind::Minus => at_minus(expr, token),
+        TokenKind::Not => at_not(expr, token),
         _ => Err(Stop::Syntax),
     }
+}
+
+/// At the `(` before an operand.
+fn at_left(alloc: Global, expr: OpenExpr, token: Token) -> Result<State, Stop>
+    requires kind { token.kind ≡ TokenKind.LeftParen }
+    ensures { Follows (State.Want expr) token result }
+{
+    let outer = with_paren(expr.parens, expr.pending)?;
+    Ok(State::Want(OpenExpr {
+        parens: outer,
+        pending: nothing_before(alloc),
+        ..expr
+    }))
+}
+
+/// At the minus sign before an operand.
+fn at_minus(expr: OpenExpr, token: Token) -> Result<State, Stop>
+    requires kind { token.kind ≡ TokenKind.Minus }
+    ensures { Follows (State.Want expr) token result }
+{
+    let next = with_minus(expr.pending, token.start)?;
+    Ok(State::Want(OpenExpr {
+        pending: next,
+        ..expr
+    }))
+}
+
+/// At the `not` before an operand.
+fn at_not(expr: OpenExpr, token: Token) -> Result<State, Stop>
+    requires kind { token.kind ≡ TokenKind.Not }
+    ensures { Follows (State.Want expr) token result }
+{
+    if !takes_not(&expr.pending) {
+        return Err(Stop::Syntax);
+    }
+    let next = with_not(expr.pending, token.start)?;
+    Ok(State::Want(OpenExpr {
+        pending: next,
+        ..expr
+    }))
 }
 
 /// Whether a negation may stand before this operand: nothing of a narrower level waits.

@@ -8,7 +8,7 @@ ghost use Rattle.spl_parser.specs.View.{Follows, Ready, TokenIn, Steps, names_en
 
 use crate::growing::{add_decl, add_named};
 use crate::heads::decls_close;
-use crate::state::{Before, Body, DeclGoal, NameGoal, State, Stop, Targets, Word};
+use crate::state::{Before, Body, CallHead, DeclGoal, NameGoal, State, Stop, Targets, Word};
 use crate::words::read_word;
 use spl_text::{Token, TokenKind};
 use spl_tree::{Decl, DeclAt, DeclKind, DeclList, NameList, TreeParts};
@@ -145,12 +145,7 @@ fn names_close(body: Body, goal: NameGoal, list: NameList) -> State
 {
     match goal {
         NameGoal::Targets(start) => State::TargetsAfter { body, start, list },
-        NameGoal::Arguments(targets, called) => State::CallAfter {
-            body,
-            targets,
-            called,
-            arguments: list,
-        },
+        NameGoal::Arguments(call) => State::CallAfter(body, call, list),
     }
 }
 
@@ -254,28 +249,19 @@ pub fn at_called(
 {
     match token.kind {
         TokenKind::Name => {
-            let name = read_word(parts, bytes, token)?;
-            Ok(State::CalledName {
-                body,
-                targets,
-                called: name,
-            })
+            let called = read_word(parts, bytes, token)?;
+            Ok(State::CalledName(body, CallHead { targets, called }))
         }
         _ => Err(Stop::Syntax),
     }
 }
 
 /// After the called name.
-pub fn at_called_name(
-    body: Body,
-    targets: Targets,
-    called: Word,
-    token: Token,
-) -> Result<State, Stop>
-    ensures { Follows (State.CalledName body targets called) token result }
+pub fn at_called_name(body: Body, call: CallHead, token: Token) -> Result<State, Stop>
+    ensures { Follows (State.CalledName body call) token result }
 {
     match token.kind {
-        TokenKind::LeftParen => Ok(State::NamesOpen(body, NameGoal::Arguments(targets, called))),
+        TokenKind::LeftParen => Ok(State::NamesOpen(body, NameGoal::Arguments(call))),
         _ => Err(Stop::Syntax),
     }
 }

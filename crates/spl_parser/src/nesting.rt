@@ -15,7 +15,7 @@ use std::alloc::Global;
 pub fn at_else(
     parts: &mut TreeParts,
     alloc: Global,
-    body: Body,
+    mut body: Body,
     token: Token,
 ) -> Result<State, Stop>
     requires ready { Ready token.start (lists_of parts.old) (State.InBlock body) }
@@ -23,40 +23,22 @@ pub fn at_else(
     requires kind { token.kind ≡ TokenKind.Else }
     ensures { (source : List ℕ) → Steps source (lists_of parts.old) (State.InBlock body) token (lists_of parts.new) result }
 {
-    let Body {
-        head,
-        locals,
-        begin,
-        mut frames,
-        stmts,
-    } = body;
-    match frames.pop() {
-        Some(
-            Frame::Then {
-                outer,
-                start,
-                condition,
-                first,
-            },
-        ) => {
-            let block = add_block(parts, &stmts)?;
+    match body.frames.pop() {
+        Some(Frame::Then { outer, front }) => {
+            let block = add_block(parts, &body.stmts)?;
             let open = with_frame(
-                frames,
+                body.frames,
                 Frame::Else {
                     outer,
-                    start,
-                    condition,
-                    first,
+                    front,
                     block,
                     second: token.end,
                 },
             )?;
             Ok(State::InBlock(Body {
-                head,
-                locals,
-                begin,
                 frames: open,
                 stmts: Vec::new(alloc),
+                ..body
             }))
         }
         Some(Frame::Else { .. }) => Err(Stop::Syntax),
@@ -66,75 +48,41 @@ pub fn at_else(
 }
 
 /// At the `endif` of a conditional.
-pub fn at_endif(parts: &mut TreeParts, body: Body, token: Token) -> Result<State, Stop>
+pub fn at_endif(parts: &mut TreeParts, mut body: Body, token: Token) -> Result<State, Stop>
     requires ready { Ready token.start (lists_of parts.old) (State.InBlock body) }
     requires token { TokenIn token }
     requires kind { token.kind ≡ TokenKind.Endif }
     ensures { (source : List ℕ) → Steps source (lists_of parts.old) (State.InBlock body) token (lists_of parts.new) result }
 {
-    let Body {
-        head,
-        locals,
-        begin,
-        mut frames,
-        stmts,
-    } = body;
-    match frames.pop() {
-        Some(
-            Frame::Then {
-                outer,
-                start,
-                condition,
-                first,
-            },
-        ) => {
-            let block = add_block(parts, &stmts)?;
-            Ok(State::AfterEnd(
-                Body {
-                    head,
-                    locals,
-                    begin,
-                    frames,
-                    stmts: outer,
-                },
-                Closed::If {
-                    start,
-                    condition,
-                    first,
-                    block,
-                    end: token.end,
-                },
-            ))
+    match body.frames.pop() {
+        Some(Frame::Then { outer, front }) => {
+            let block = add_block(parts, &body.stmts)?;
+            body.stmts = outer;
+            let closed = Closed::If {
+                front,
+                block,
+                end: token.end,
+            };
+            Ok(State::AfterEnd(body, closed))
         }
         Some(
             Frame::Else {
                 outer,
-                start,
-                condition,
-                first,
+                front,
                 block,
                 second,
             },
         ) => {
-            let other = add_block(parts, &stmts)?;
-            Ok(State::AfterEnd(
-                Body {
-                    head,
-                    locals,
-                    begin,
-                    frames,
-                    stmts: outer,
-                },
-                Closed::IfElse {
-                    start,
-                    condition,
-                    first,
-                    block,
-                    second,
-                    other,
-                    end: token.end,
-                },
-            ))
+            let other = add_block(parts, &body.stmts)?;
+            body.stmts = outer;
+            let closed = Closed::IfElse {
+                front,
+                block,
+                second,
+                other,
+                end: token.end,
+            };
+            Ok(State::AfterEnd(body, closed))
         }
         Some(Frame::While { .. }) => Err(Stop::Syntax),
         None => Err(Stop::Syntax),
@@ -142,45 +90,22 @@ pub fn at_endif(parts: &mut TreeParts, body: Body, token: Token) -> Result<State
 }
 
 /// At the `done` of a loop.
-pub fn at_done(parts: &mut TreeParts, body: Body, token: Token) -> Result<State, Stop>
+pub fn at_done(parts: &mut TreeParts, mut body: Body, token: Token) -> Result<State, Stop>
     requires ready { Ready token.start (lists_of parts.old) (State.InBlock body) }
     requires token { TokenIn token }
     requires kind { token.kind ≡ TokenKind.Done }
     ensures { (source : List ℕ) → Steps source (lists_of parts.old) (State.InBlock body) token (lists_of parts.new) result }
 {
-    let Body {
-        head,
-        locals,
-        begin,
-        mut frames,
-        stmts,
-    } = body;
-    match frames.pop() {
-        Some(
-            Frame::While {
-                outer,
-                start,
-                condition,
-                first,
-            },
-        ) => {
-            let block = add_block(parts, &stmts)?;
-            Ok(State::AfterEnd(
-                Body {
-                    head,
-                    locals,
-                    begin,
-                    frames,
-                    stmts: outer,
-                },
-                Closed::While {
-                    start,
-                    condition,
-                    first,
-                    block,
-                    end: token.end,
-                },
-            ))
+    match body.frames.pop() {
+        Some(Frame::While { outer, front }) => {
+            let block = add_block(parts, &body.stmts)?;
+            body.stmts = outer;
+            let closed = Closed::While {
+                front,
+                block,
+                end: token.end,
+            };
+            Ok(State::AfterEnd(body, closed))
         }
         Some(Frame::Then { .. }) => Err(Stop::Syntax),
         Some(Frame::Else { .. }) => Err(Stop::Syntax),

@@ -8,7 +8,7 @@ ghost use Rattle.spl_parser.specs.Growth.{grown};
 
 use crate::blocks::{finish_stmt, open_then, open_while, plain_places};
 use crate::operands::{closed_conjunct, closed_product, closed_sum, closed_whole};
-use crate::state::{Goal, Left, OpenExpr, Pending, Side, Sign, State, Stop};
+use crate::state::{Front, Goal, Left, OpenExpr, Pending, Side, Sign, State, Stop};
 use spl_text::{Token, TokenKind};
 use spl_tree::{BinOp, ExprId, Stmt, TreeParts};
 use std::alloc::{AllocError, Global};
@@ -251,23 +251,7 @@ pub fn at_have(
                 ..expr
             }))
         }
-        Sign::Comparison(operator) => match expr.pending.comparison {
-            Some(_) => Err(Stop::Syntax),
-            None => {
-                let next = after_comparison(
-                    parts,
-                    alloc,
-                    expr.pending,
-                    operand,
-                    operator,
-                    token.start,
-                )?;
-                Ok(State::Want(OpenExpr {
-                    pending: next,
-                    ..expr
-                }))
-            }
-        },
+        Sign::Comparison(operator) => at_comparison(parts, alloc, expr, operand, operator, token),
         Sign::And => {
             let next = after_and(parts, alloc, expr.pending, operand, token.start)?;
             Ok(State::Want(OpenExpr {
@@ -287,6 +271,39 @@ pub fn at_have(
         Sign::Then => at_then(parts, alloc, expr, operand, token),
         Sign::Do => at_do(parts, alloc, expr, operand, token),
         Sign::Other => Err(Stop::Syntax),
+    }
+}
+
+/// At a comparison sign.
+fn at_comparison(
+    parts: &mut TreeParts,
+    alloc: Global,
+    expr: OpenExpr,
+    operand: ExprId,
+    operator: BinOp,
+    token: Token,
+) -> Result<State, Stop>
+    requires ready { Ready token.start (lists_of parts.old) (State.Have expr operand) }
+    requires token { TokenIn token }
+    requires sign { sign_of token.kind ≡ Sign.Comparison operator }
+    ensures { (source : List ℕ) → Steps source (lists_of parts.old) (State.Have expr operand) token (lists_of parts.new) result }
+{
+    match expr.pending.comparison {
+        Some(_) => Err(Stop::Syntax),
+        None => {
+            let next = after_comparison(
+                parts,
+                alloc,
+                expr.pending,
+                operand,
+                operator,
+                token.start,
+            )?;
+            Ok(State::Want(OpenExpr {
+                pending: next,
+                ..expr
+            }))
+        }
     }
 }
 
@@ -370,7 +387,12 @@ fn at_then(
     match expr.goal {
         Goal::If(start) => {
             let whole = closed_whole(parts, expr.pending, operand)?;
-            let next = open_then(alloc, expr.body, start, whole, token.end)?;
+            let front = Front {
+                start,
+                condition: whole,
+                first: token.end,
+            };
+            let next = open_then(alloc, expr.body, front)?;
             Ok(State::InBlock(next))
         }
         Goal::Assume(_) => Err(Stop::Syntax),
@@ -398,7 +420,12 @@ fn at_do(
     match expr.goal {
         Goal::While(start) => {
             let whole = closed_whole(parts, expr.pending, operand)?;
-            let next = open_while(alloc, expr.body, start, whole, token.end)?;
+            let front = Front {
+                start,
+                condition: whole,
+                first: token.end,
+            };
+            let next = open_while(alloc, expr.body, front)?;
             Ok(State::InBlock(next))
         }
         Goal::Assume(_) => Err(Stop::Syntax),

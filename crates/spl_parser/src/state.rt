@@ -59,30 +59,31 @@ pub enum Before {
     After(u32),
 }
 
-/// An open block around the one that is read: the statements before it in the block around it, where its statement
-/// starts, the condition, and where the first block begins. After `else` the first block stands there too, and where
-/// the second one begins.
+/// The front of a conditional or a loop: where it starts, its condition, and where its first block begins.
+#[derive(Clone, Copy, Drop)]
+pub struct Front {
+    pub start: usize,
+    pub condition: ExprId,
+    pub first: usize,
+}
+
+/// An open block around the one that is read: the statements before it in the block around it, and the front of its
+/// statement. After `else` the first block stands there too, and where the second one begins.
 #[derive(Drop)]
 pub enum Frame {
     Then {
         outer: Vec<StmtId>,
-        start: usize,
-        condition: ExprId,
-        first: usize,
+        front: Front,
     },
     Else {
         outer: Vec<StmtId>,
-        start: usize,
-        condition: ExprId,
-        first: usize,
+        front: Front,
         block: Block,
         second: usize,
     },
     While {
         outer: Vec<StmtId>,
-        start: usize,
-        condition: ExprId,
-        first: usize,
+        front: Front,
     },
 }
 
@@ -158,37 +159,38 @@ pub enum Targets {
     List(usize, NameList),
 }
 
+/// A call up to its arguments.
+#[derive(Clone, Copy, Drop)]
+pub struct CallHead {
+    pub targets: Targets,
+    pub called: Word,
+}
+
 /// What a list of names is for.
 #[derive(Clone, Copy, Drop)]
 pub enum NameGoal {
     Targets(usize),
-    Arguments(Targets, Word),
+    Arguments(CallHead),
 }
 
-/// A statement whose `;` may follow: where it starts, its condition, where its first block begins, that block, the
-/// same of the block after `else`, and where its last word ends.
+/// A statement whose `;` may follow: its front, its first block, where the block after `else` begins, that block, and
+/// where its last word ends.
 #[derive(Clone, Copy, Drop)]
 pub enum Closed {
     If {
-        start: usize,
-        condition: ExprId,
-        first: usize,
+        front: Front,
         block: Block,
         end: usize,
     },
     IfElse {
-        start: usize,
-        condition: ExprId,
-        first: usize,
+        front: Front,
         block: Block,
         second: usize,
         other: Block,
         end: usize,
     },
     While {
-        start: usize,
-        condition: ExprId,
-        first: usize,
+        front: Front,
         block: Block,
         end: usize,
     },
@@ -244,17 +246,8 @@ pub enum State {
         list: NameList,
     },
     Called(Body, Targets),
-    CalledName {
-        body: Body,
-        targets: Targets,
-        called: Word,
-    },
-    CallAfter {
-        body: Body,
-        targets: Targets,
-        called: Word,
-        arguments: NameList,
-    },
+    CalledName(Body, CallHead),
+    CallAfter(Body, CallHead, NameList),
     AfterEnd(Body, Closed),
     Finished(MainTree, usize),
 }

@@ -17,7 +17,7 @@ use crate::lists::{
 };
 use crate::nesting::{at_done, at_else, at_end, at_endif};
 use crate::operators::at_have;
-use crate::state::{Body, Closed, Goal, NameGoal, Simple, State, Stop, Targets, Word};
+use crate::state::{Body, CallHead, Closed, Goal, NameGoal, Simple, State, Stop, Targets, Word};
 use crate::words::read_word;
 use spl_text::{Token, TokenKind};
 use spl_tree::{Expr, TreeParts};
@@ -122,10 +122,13 @@ fn at_assign_name(
     ensures { (source : List ℕ) → Steps source (lists_of parts.old) (State.AssignName body target name) token (lists_of parts.new) result }
 {
     match token.kind {
-        TokenKind::LeftParen => Ok(State::NamesOpen(
-            body,
-            NameGoal::Arguments(Targets::One(target), name),
-        )),
+        TokenKind::LeftParen => {
+            let call = CallHead {
+                targets: Targets::One(target),
+                called: name,
+            };
+            Ok(State::NamesOpen(body, NameGoal::Arguments(call)))
+        }
         _ => {
             let atom = add_expr(parts, Expr::Variable(name.name), name.at)?;
             let expr = new_expr(alloc, body, Goal::Assign(target));
@@ -179,17 +182,10 @@ pub fn step(
         State::NamesAfter { body, goal, first } => at_names_after(parts, body, goal, first, token),
         State::TargetsAfter { body, start, list } => at_targets_after(body, start, list, token),
         State::Called(body, targets) => at_called(parts, bytes, body, targets, token),
-        State::CalledName {
-            body,
-            targets,
-            called,
-        } => at_called_name(body, targets, called, token),
-        State::CallAfter {
-            body,
-            targets,
-            called,
-            arguments,
-        } => at_call_after(parts, body, targets, called, arguments, token),
+        State::CalledName(body, call) => at_called_name(body, call, token),
+        State::CallAfter(body, call, arguments) => at_call_after(
+            parts, body, call, arguments, token,
+        ),
         State::AfterEnd(body, closed) => at_after_end(parts, alloc, bytes, body, closed, token),
         State::Finished(_, _) => Err(Stop::Syntax),
     }

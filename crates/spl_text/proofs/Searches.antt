@@ -2,12 +2,6 @@
 use Rattle.std.proofs.Common.{◌≡◌, ℕ, suc, ◌+◌, ◌-◌, ◌<◌, ◌≤◌, Bool, true, false, cond, Some, zero, arith, refl}
 use Rattle.std.specs.List.{find, range_with_len}
 
--- one offset further
-pub find-range_more : (p : ℕ → Bool) (i n : ℕ) → i < n → find p (range_with_len i (n - i)) ≡ cond (p i) (Some i) (find p (range_with_len (i + 1) (n - (i + 1))))
-find-range_more p i n h =
-    let e : n - i ≡ suc (n - (i + 1)) = omega arith in
-    rw e refl
-
 -- what is found is in the range, and passes
 pub find-range_found : (p : ℕ → Bool) (a n k : ℕ) → find p (range_with_len a n) ≡ Some k → (a ≤ k) × (k < a + n) × (p k ≡ true)
 find-range_found p a zero k h = absurd cc

@@ -3,12 +3,11 @@ use Rattle.std.proofs.Common.{refl}
 use Rattle.spl_text.specs.declared.token.TokenKind.TheVariants as kind
 use Rattle.spl_tree.specs.Program.{number}
 use Rattle.spl_parser.specs.declared.state.State.TheVariants as state
-use Rattle.spl_parser.specs.Growth.{grown}
 use Rattle.spl_parser.specs.Machine as m
 use Rattle.spl_parser.specs.Trees.{trees}
 use Rattle.spl_parser.specs.Machine.{step, step_want}
 use Rattle.spl_tree.specs.Program.{true_value, false_value, random_value}
-use Rattle.spl_parser.proofs.WantArms.{want_arm, want_name_arm, paren_arm, minus_arm, not_arm, not_none}
+use Rattle.spl_parser.proofs.WantArms.{want_arm, want_name_arm}
 use Rattle.spl_parser.proofs.Refusals.{refuses_want}
 use Rattle.spl_tree.specs.Lists.{lists_of}
 use Rattle.spl_parser.proofs.exprs.at_want.Goals as goal
@@ -37,17 +36,14 @@ pub returns-in_ok-atom-in-Name : goal.returns-in_ok-atom-in-Name
 unfolding step step_want
 returns-in_ok-atom-in-Name c = want_name_arm c.args.bytes.now (lists_of c.args.parts.now) (lists_of c.read_word.new.parts) (lists_of c.add_expr-in-Name.new.parts) c.args.token c.args.expr.body c.args.expr.goal c.args.expr.parens.items (state.Want c.args.expr) (state.Have c.args.expr c.in_ok-atom-in-Name.atom) c.args.expr.pending c.in_ok-word-in-Name.word c.in_ok-atom-in-Name.atom c.in-Name.is refl refl refl (λ a b d f g. (a, b, d, f, g)) c.requires.token c.requires.ready.small c.requires.ready.there c.in_ok-word-in-Name.ensures c.in_ok-atom-in-Name.ensures.number c.in_ok-atom-in-Name.ensures.grew
 
-pub returns-in_ok-outer-in-LeftParen : goal.returns-in_ok-outer-in-LeftParen
-returns-in_ok-outer-in-LeftParen c = paren_arm c.args.bytes.now (lists_of c.args.parts.now) c.args.token c.args.expr.body c.args.expr.goal (state.Want c.args.expr) (state.Want (record { body = c.args.expr.body; goal = c.args.expr.goal; parens = c.in_ok-outer-in-LeftParen.outer; pending = c.nothing_before.result })) c.args.expr.parens.items c.in_ok-outer-in-LeftParen.outer.items c.args.expr.pending c.nothing_before.result c.in-LeftParen.is c.in_ok-outer-in-LeftParen.ensures c.nothing_before.ensures refl refl refl refl (λ a b d f. (a, b, d, f)) c.requires.ready c.requires.token c.requires.ready.there
+pub returns-in-LeftParen : goal.returns-in-LeftParen
+returns-in-LeftParen c = c.at_left.ensures c.args.bytes.now (lists_of c.args.parts.now) c.requires.ready c.requires.token
 
-pub returns-in_ok-next-in-Minus : goal.returns-in_ok-next-in-Minus
-returns-in_ok-next-in-Minus c = minus_arm c.args.bytes.now (lists_of c.args.parts.now) c.args.token c.args.expr.body c.args.expr.goal (state.Want c.args.expr) (state.Want (record { body = c.args.expr.body; goal = c.args.expr.goal; parens = c.args.expr.parens; pending = c.in_ok-next-in-Minus.next })) c.args.expr.parens.items c.args.expr.pending c.in_ok-next-in-Minus.next c.in-Minus.is c.in_ok-next-in-Minus.ensures refl refl refl refl (λ x. (c.requires.ready.there.0, c.requires.ready.there.1, c.requires.ready.there.2, x)) c.requires.ready c.requires.token c.requires.ready.there.3
+pub returns-in-Minus : goal.returns-in-Minus
+returns-in-Minus c = c.at_minus.ensures c.args.bytes.now (lists_of c.args.parts.now) c.requires.ready c.requires.token
 
-pub returns-in_ok-next-in-Not : goal.returns-in_ok-next-in-Not
-returns-in_ok-next-in-Not c = not_arm c.args.bytes.now (lists_of c.args.parts.now) c.args.token c.args.expr.body c.args.expr.goal (state.Want c.args.expr) (state.Want (record { body = c.args.expr.body; goal = c.args.expr.goal; parens = c.args.expr.parens; pending = c.in_ok-next-in-Not.next })) c.args.expr.parens.items c.args.expr.pending c.in_ok-next-in-Not.next c.in-Not.is (cc (c.takes_not.ensures, c.if-not-takes_not.false)) c.in_ok-next-in-Not.ensures refl refl refl refl (λ x. (c.requires.ready.there.0, c.requires.ready.there.1, c.requires.ready.there.2, x)) c.requires.ready c.requires.token c.requires.ready.there.3
+pub returns-in-Not : goal.returns-in-Not
+returns-in-Not c = c.at_not.ensures c.args.bytes.now (lists_of c.args.parts.now) c.requires.ready c.requires.token
 
 pub returns-in_default : goal.returns-in_default
 returns-in_default c = refuses_want (trees c.args.bytes.now) _ _ _ _ c.args.token.kind (m.leaf_of c.args.token) c.in_default.not-Number c.in_default.not-Name c.in_default.not-True c.in_default.not-False c.in_default.not-Random c.in_default.not-Brandom c.in_default.not-LeftParen c.in_default.not-Minus c.in_default.not-Not
-
-pub returns-then-not-takes_not : goal.returns-then-not-takes_not
-returns-then-not-takes_not c = not_none c.args.bytes.now (grown (lists_of c.args.parts.now)) c.args.token c.args.expr.body c.args.expr.goal (state.Want c.args.expr) c.args.expr.parens.items c.args.expr.pending c.in-Not.is (cc (c.takes_not.ensures, c.if-not-takes_not.true)) refl

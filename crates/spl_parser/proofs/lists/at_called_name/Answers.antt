@@ -12,7 +12,7 @@ use Rattle.spl_parser.proofs.lists.at_called_name.Goals as goal
 
 pub returns-in-LeftParen : goal.returns-in-LeftParen
 unfolding step step_called_name
-returns-in-LeftParen c = λ source t h w. still0 source t (state.CalledName c.args.body c.args.targets c.args.called) (state.NamesOpen c.args.body (name_goal.Arguments c.args.targets c.args.called)) c.args.token kind.LeftParen c.in-LeftParen.is refl refl ((h.there.0, (h.there.1, h.there.2))) h w
+returns-in-LeftParen c = λ source t h w. still0 source t (state.CalledName c.args.body c.args.call) (state.NamesOpen c.args.body (name_goal.Arguments c.args.call)) c.args.token kind.LeftParen c.in-LeftParen.is refl refl h.there h w
 
 pub returns-in_default : goal.returns-in_default
 returns-in_default c = λ source t h w. refuses_called_name (trees source) _ _ _ c.args.token.kind (m.leaf_of c.args.token) c.in_default.not-LeftParen

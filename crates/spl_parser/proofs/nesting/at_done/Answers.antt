@@ -21,4 +21,4 @@ unfolding on_done
 returns-in-None c = λ source. at_done_word source (grown (lists_of c.args.parts.now)) c.args.body c.args.token _ c.requires.kind (ap (λ l. stacked (frame_of source (grown (lists_of c.args.parts.now))) l) (no_parens c.args.body.frames.items (search rules)))
 
 pub returns-in_ok-block-in-Some-While : goal.returns-in_ok-block-in-Some-While
-returns-in_ok-block-in-Some-While c = λ source. while_arm source (lists_of c.args.parts.now) (lists_of c.add_block.new.parts) c.args.token c.args.body _ c.pop.new.self.items c.in-Some-While.field-0 c.in-Some-While.outer c.in-Some-While.start c.in-Some-While.condition c.in-Some-While.first c.in_ok-block-in-Some-While.block c.requires.kind c.in-Some-While.ensures.items c.in-Some-While.field-0-is c.requires.token c.requires.ready (adds_slice (lists_of c.args.parts.now) (lists_of c.add_block.new.parts) c.args.body.stmts.items c.deref.result.now c.in_ok-block-in-Some-While.block (search rules) c.requires.ready.there.stmts c.in_ok-block-in-Some-While.ensures.first c.in_ok-block-in-Some-While.ensures.count c.in_ok-block-in-Some-While.ensures.grew) refl refl refl refl refl
+returns-in_ok-block-in-Some-While c = λ source. while_arm source (lists_of c.args.parts.now) (lists_of c.add_block.new.parts) c.args.token c.args.body _ c.pop.new.self.items c.in-Some-While.field-0 c.in-Some-While.outer c.in-Some-While.front c.in_ok-block-in-Some-While.block c.requires.kind c.in-Some-While.ensures.items c.in-Some-While.field-0-is c.requires.token c.requires.ready (adds_slice (lists_of c.args.parts.now) (lists_of c.add_block.new.parts) c.args.body.stmts.items c.deref.result.now c.in_ok-block-in-Some-While.block (search rules) c.requires.ready.there.stmts c.in_ok-block-in-Some-While.ensures.first c.in_ok-block-in-Some-While.ensures.count c.in_ok-block-in-Some-While.ensures.grew) refl refl refl refl refl

@@ -21,4 +21,4 @@ unfolding on_else
 returns-in-None c = λ source. at_else_word source (grown (lists_of c.args.parts.now)) c.args.body c.args.token _ c.requires.kind (ap (λ l. stacked (frame_of source (grown (lists_of c.args.parts.now))) l) (no_parens c.args.body.frames.items (search rules)))
 
 pub returns-in_ok-open-in-Some-Then : goal.returns-in_ok-open-in-Some-Then
-returns-in_ok-open-in-Some-Then c = λ source. else_arm source (lists_of c.args.parts.now) (lists_of c.add_block.new.parts) c.args.token c.args.body _ c.pop.new.self.items c.in-Some-Then.field-0 c.in-Some-Then.outer c.in-Some-Then.start c.in-Some-Then.condition c.in-Some-Then.first c.in_ok-block-in-Some-Then.block c.requires.kind c.in-Some-Then.ensures.items c.in-Some-Then.field-0-is c.requires.token c.requires.ready (adds_slice (lists_of c.args.parts.now) (lists_of c.add_block.new.parts) c.args.body.stmts.items c.deref.result.now c.in_ok-block-in-Some-Then.block (search rules) c.requires.ready.there.stmts c.in_ok-block-in-Some-Then.ensures.first c.in_ok-block-in-Some-Then.ensures.count c.in_ok-block-in-Some-Then.ensures.grew) refl refl refl c.in_ok-open-in-Some-Then.ensures (search rules)
+returns-in_ok-open-in-Some-Then c = λ source. else_arm source (lists_of c.args.parts.now) (lists_of c.add_block.new.parts) c.args.token c.args.body _ c.pop.new.self.items c.in-Some-Then.field-0 c.in-Some-Then.outer c.in-Some-Then.front c.in_ok-block-in-Some-Then.block c.requires.kind c.in-Some-Then.ensures.items c.in-Some-Then.field-0-is c.requires.token c.requires.ready (adds_slice (lists_of c.args.parts.now) (lists_of c.add_block.new.parts) c.args.body.stmts.items c.deref.result.now c.in_ok-block-in-Some-Then.block (search rules) c.requires.ready.there.stmts c.in_ok-block-in-Some-Then.ensures.first c.in_ok-block-in-Some-Then.ensures.count c.in_ok-block-in-Some-Then.ensures.grew) refl refl refl c.in_ok-open-in-Some-Then.ensures (search rules)
