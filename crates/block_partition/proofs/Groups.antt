@@ -1,19 +1,20 @@
 -- The partition that labels make.
-use Rattle.std.proofs.Common.{◌≡◌, ℕ, ◌+◌, ◌<◌, ◌≤◌, ◌⊎◌, inl, inr, Bool, true, false, cond, eqb, List, [], ◌∷◌, ◌++◌, length, length-append, append-nil, refl, sym, ap, ◌∙◌, subst, arith, zero, suc, ltb}
+use Rattle.std.proofs.Common.{◌≡◌, ℕ, ◌+◌, ◌<◌, ◌≤◌, ◌⊎◌, inl, inr, Bool, true, false, cond, List, [], ◌∷◌, ◌++◌, length, length-append, append-nil, refl, sym, ap, ◌∙◌, subst, arith, zero, suc, ltb, Option, None}
 use Rattle.std.specs.Prelude.{◌↔◌}
 use Rattle.std.proofs.lemmas.Bool.{cases_lt, cases_eq, both_ways, eqb-true, eq-eqb, and_parts, and_from, lt-ltb, le-ltb, not-true, not_from_false}
 use Rattle.std.proofs.lemmas.List.{get_or-map, length-map, get_or_append_left, get_or_push}
 use Rattle.std.proofs.lemmas.List.Sums.{position_or_len_is}
 use Rattle.block_partition.specs.Partition.{member, place, IsIn, block, home, SameBlock, IsBlock, IsPartition, IsOrdered}
-use Rattle.block_partition.specs.Grouping.{kept, no_label, has_label_of, is_leader, group, grouped}
-use Rattle.block_partition.proofs.Places.{member-place, in-member, before-place, home_in}
+use Rattle.block_partition.specs.Grouping.{Label, label, first_with, kept, has_label_of, is_leader, group, grouped}
+use Rattle.block_partition.proofs.Labels.{same-true, same-from, same-not, label-first, before-first, first-in}
+use Rattle.block_partition.proofs.Places.{member-place, in-member, home_in}
 
--- two variables have one label, which isn't the one of variables in no block
-pub record SameLabel (labels : List ℕ) (u w : ℕ) : Type 0 where
+-- two variables have one label
+pub record SameLabel (labels : List (Option Label)) (u w : ℕ) : Type 0 where
   pub first : u < length labels
   pub second : w < length labels
-  pub same : member labels u ≡ member labels w
-  pub labelled : eqb (member labels u) no_label ≡ false
+  pub same : label labels u ≡ label labels w
+  pub labelled : label labels u ≡ None → ⊥
 
 -- ---- the numbers that pass a test
 
@@ -83,57 +84,57 @@ kept-is test (suc n) = kept-more test n (kept test n) (kept-is test n) (test n) 
 
 -- ---- groups
 
-unfoldable pub leaders : List ℕ → List ℕ
+unfoldable pub leaders : List (Option Label) → List ℕ
 leaders labels = kept (is_leader labels) (length labels)
 
-pub leaders-are : (labels : List ℕ) → IsKept (is_leader labels) (length labels) (leaders labels)
+pub leaders-are : (labels : List (Option Label)) → IsKept (is_leader labels) (length labels) (leaders labels)
 unfolding leaders
 leaders-are labels = kept-is (is_leader labels) (length labels)
 
-group-is : (labels : List ℕ) (v : ℕ) → IsKept (has_label_of labels v) (length labels) (group labels v)
+group-is : (labels : List (Option Label)) (v : ℕ) → IsKept (has_label_of labels v) (length labels) (group labels v)
 unfolding group
 group-is labels v = kept-is (has_label_of labels v) (length labels)
 
-pub length-grouped : (labels : List ℕ) → length (grouped labels) ≡ length (leaders labels)
+pub length-grouped : (labels : List (Option Label)) → length (grouped labels) ≡ length (leaders labels)
 unfolding grouped leaders
 length-grouped labels = length-map (kept (is_leader labels) (length labels)) (group labels)
 
-pub block-grouped : (labels : List ℕ) (b : ℕ) → b < length (leaders labels) → block (grouped labels) b ≡ group labels (member (leaders labels) b)
+pub block-grouped : (labels : List (Option Label)) (b : ℕ) → b < length (leaders labels) → block (grouped labels) b ≡ group labels (member (leaders labels) b)
 unfolding grouped leaders
 block-grouped labels b h = get_or-map (group labels) (kept (is_leader labels) (length labels)) b 0 [] h
 
 -- what is known of a leader
-pub record Leads (labels : List ℕ) (v : ℕ) : Type 0 where
-  pub labelled : eqb (member labels v) no_label ≡ false
-  pub first : place labels (member labels v) ≡ v
+pub record Leads (labels : List (Option Label)) (v : ℕ) : Type 0 where
+  pub labelled : label labels v ≡ None → ⊥
+  pub first : first_with labels (label labels v) ≡ v
 
-pub leads : (labels : List ℕ) (v : ℕ) → is_leader labels v ≡ true → Leads labels v
+pub leads : (labels : List (Option Label)) (v : ℕ) → is_leader labels v ≡ true → Leads labels v
 unfolding is_leader
 leads labels v h =
     let r = and_parts _ _ h in
-    record { labelled = not-true _ r.0; first = eqb-true _ _ r.1 }
+    record { labelled = λ e. both_ways _ (not-true _ r.0) (same-from _ _ e); first = eqb-true _ _ r.1 }
 
-leader-from : (labels : List ℕ) (v : ℕ) → Leads labels v → is_leader labels v ≡ true
+leader-from : (labels : List (Option Label)) (v : ℕ) → Leads labels v → is_leader labels v ≡ true
 unfolding is_leader
-leader-from labels v h = and_from _ _ (not_from_false _ h.labelled) (eq-eqb _ _ h.first)
+leader-from labels v h = and_from _ _ (not_from_false _ (same-not _ _ h.labelled)) (eq-eqb _ _ h.first)
 
-pub leader-at : (labels : List ℕ) (b : ℕ) → b < length (leaders labels) → Leads labels (member (leaders labels) b)
+pub leader-at : (labels : List (Option Label)) (b : ℕ) → b < length (leaders labels) → Leads labels (member (leaders labels) b)
 leader-at labels b h = leads labels _ ((leaders-are labels).passes b h)
 
-group-home : (labels : List ℕ) (v w : ℕ) → IsIn (group labels v) w → (member labels w ≡ member labels v) × (w < length labels)
+group-home : (labels : List (Option Label)) (v w : ℕ) → IsIn (group labels v) w → (label labels w ≡ label labels v) × (w < length labels)
 unfolding has_label_of
 group-home labels v w h =
     let k = group-is labels v in
     let e = member-place (group labels v) w h in
-    (ap (member labels) (sym e) ∙ eqb-true _ _ (k.passes (place (group labels v) w) h), (let r = k.below (place (group labels v) w) h in omega arith))
+    (ap (label labels) (sym e) ∙ same-true _ _ (k.passes (place (group labels v) w) h), (let r = k.below (place (group labels v) w) h in omega arith))
 
-pub group-has : (labels : List ℕ) (v w : ℕ) → w < length labels → member labels w ≡ member labels v → IsIn (group labels v) w
+pub group-has : (labels : List (Option Label)) (v w : ℕ) → w < length labels → label labels w ≡ label labels v → IsIn (group labels v) w
 unfolding has_label_of
 group-has labels v w p e =
-    let r = (group-is labels v).all w p (eq-eqb _ _ e) in
+    let r = (group-is labels v).all w p (same-from _ _ e) in
     subst (IsIn (group labels v)) r.2 (in-member (group labels v) r.0 r.1)
 
-pub home-group : (labels : List ℕ) (v b : ℕ) → b < length (leaders labels) → IsIn (group labels (member (leaders labels) b)) v → home (grouped labels) v ≡ b
+pub home-group : (labels : List (Option Label)) (v b : ℕ) → b < length (leaders labels) → IsIn (group labels (member (leaders labels) b)) v → home (grouped labels) v ≡ b
 unfolding home
 home-group labels v b h i =
     position_or_len_is (λ vs. ltb (place vs v) (length vs)) (grouped labels) b [] (omega (arith, length-grouped labels))
@@ -147,11 +148,11 @@ home-group labels v b h i =
         let there = group-home labels _ v (subst (λ vs. IsIn vs v) (block-grouped labels k hk) q) in
         let here = group-home labels _ v i in
         let same : member (leaders labels) k ≡ member (leaders labels) b =
-        sym (leader-at labels k hk).first ∙ ap (place labels) (sym there.0 ∙ here.0) ∙ (leader-at labels b h).first in
+        sym (leader-at labels k hk).first ∙ ap (first_with labels) (sym there.0 ∙ here.0) ∙ (leader-at labels b h).first in
         let r = (leaders-are labels).rising k b p h in
         absurd (omega arith)
 
-pub partition-grouped : (labels : List ℕ) → IsPartition (length labels) (grouped labels)
+pub partition-grouped : (labels : List (Option Label)) → IsPartition (length labels) (grouped labels)
 partition-grouped labels = record {
   blocks = λ b h.
       let g : b < length (leaders labels) = omega (arith, length-grouped labels) in
@@ -163,15 +164,15 @@ partition-grouped labels = record {
 }
 
 -- the block of a labelled variable
-find-leader : (labels : List ℕ) (u : ℕ) → u < length labels → eqb (member labels u) no_label ≡ false → (b : ℕ) × (b < length (leaders labels)) × (member labels (member (leaders labels) b) ≡ member labels u)
-find-leader labels u p e =
-    let l = place labels (member labels u) in
-    let q : l < length labels = in-member labels u p in
-    let f : member labels l ≡ member labels u = member-place labels (member labels u) q in
-    let r = (leaders-are labels).all l q (leader-from labels l (record { labelled = ap (λ t. eqb t no_label) f ∙ e; first = ap (place labels) f })) in
-    (r.0, r.1, ap (member labels) r.2 ∙ f)
+find-leader : (labels : List (Option Label)) (u : ℕ) → u < length labels → (label labels u ≡ None → ⊥) → (b : ℕ) × (b < length (leaders labels)) × (label labels (member (leaders labels) b) ≡ label labels u)
+find-leader labels u p d =
+    let l = first_with labels (label labels u) in
+    let q : l < length labels = first-in labels u p in
+    let f : label labels l ≡ label labels u = label-first labels (label labels u) q in
+    let r = (leaders-are labels).all l q (leader-from labels l (record { labelled = λ e. d (sym f ∙ e); first = ap (first_with labels) f })) in
+    (r.0, r.1, ap (label labels) r.2 ∙ f)
 
-pub same_block-grouped : (labels : List ℕ) (u w : ℕ) → SameBlock (grouped labels) u w ↔ SameLabel labels u w
+pub same_block-grouped : (labels : List (Option Label)) (u w : ℕ) → SameBlock (grouped labels) u w ↔ SameLabel labels u w
 same_block-grouped labels u w = (there, back)
   where
     there : SameBlock (grouped labels) u w → SameLabel labels u w
@@ -186,7 +187,7 @@ same_block-grouped labels u w = (there, back)
           first = ru.1;
           second = rw'.1;
           same = ru.0 ∙ sym rw'.0;
-          labelled = ap (λ t. eqb t no_label) ru.0 ∙ (leader-at labels b g).labelled;
+          labelled = λ e. (leader-at labels b g).labelled (sym ru.0 ∙ e);
         }
 
     back : SameLabel labels u w → SameBlock (grouped labels) u w
@@ -197,7 +198,7 @@ same_block-grouped labels u w = (there, back)
         (eu ∙ sym ew, (let q = r.1 in omega (arith, length-grouped labels)))
 
 -- the least member of a group is its leader
-head-group : (labels : List ℕ) (v : ℕ) → v < length labels → Leads labels v → (0 < length (group labels v)) × (member (group labels v) 0 ≡ v)
+head-group : (labels : List (Option Label)) (v : ℕ) → v < length labels → Leads labels v → (0 < length (group labels v)) × (member (group labels v) 0 ≡ v)
 head-group labels v p l =
     let i = group-has labels v v p refl in
     (omega arith, by (cases_lt 0 (place (group labels v) v)) i)
@@ -211,10 +212,10 @@ head-group labels v p l =
         let r = k.rising 0 (place (group labels v) v) q i in
         let e = member-place (group labels v) v i in
         let same = group-home labels v h (in-member (group labels v) 0 z) in
-        let f : h < place labels (member labels v) = (let t = l.first in omega arith) in
-        absurd (before-place labels (member labels v) h f same.0)
+        let f : h < first_with labels (label labels v) = (let t = l.first in omega arith) in
+        absurd (before-first labels (label labels v) h f same.0)
 
-pub ordered-grouped : (labels : List ℕ) → IsOrdered (grouped labels)
+pub ordered-grouped : (labels : List (Option Label)) → IsOrdered (grouped labels)
 ordered-grouped labels = record {
   filled = λ b h. let g : b < length (leaders labels) = omega (arith, length-grouped labels) in
       subst (λ vs. 0 < length vs) (sym (block-grouped labels b g)) (head b g).0;

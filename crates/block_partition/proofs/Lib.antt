@@ -1,4 +1,5 @@
 pub mod Places
+pub mod Labels
 pub mod Groups
 pub mod Unique
 pub mod Steps

@@ -18,11 +18,6 @@ in-member vs i h = by (cases_lt (place vs (member vs i)) (length vs))
         let fails = fails_before_first (λ x. eqb x (member vs i)) vs i 0 (omega arith) in
         absurd (both_ways (eqb (member vs i) (member vs i)) fails (eq-eqb _ _ refl))
 
--- what stands before the place of a variable is another one
-pub before-place : (vs : List ℕ) (v k : ℕ) → k < place vs v → member vs k ≡ v → ⊥
-unfolding place
-before-place vs v k h e = both_ways _ (fails_before_first (λ x. eqb x v) vs k 0 h) (eq-eqb _ _ e)
-
 pub place-member : (n : ℕ) (vs : List ℕ) (i v : ℕ) → IsBlock n vs → i < length vs → member vs i ≡ v → place vs v ≡ i
 unfolding place
 place-member n vs i v bl h e = position_or_len_is (λ x. eqb x v) vs i 0 (omega arith)

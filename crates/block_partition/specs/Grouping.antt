@@ -1,43 +1,69 @@
--- The partition that labels make: variables with one label are a block, and those labelled `no_label` are in none.
-use Rattle.std.specs.Prelude.{◌≡◌, ℕ, zero, suc, ◌+◌, ◌<◌, ◌≤◌, ◌&&◌, max, nat_eq, nat_lt, not, Bool, Option, Some, List, [], ◌∷◌, ◌++◌, map, length, unwrap_or, if◌then◌else◌}
-use Rattle.block_partition.specs.Partition.{member, block, home, place}
+-- The partition that labels make: variables with one label are a block, and those without a label are in none.
+use Rattle.std.specs.Prelude.{◌≡◌, ℕ, zero, suc, ◌+◌, ◌<◌, ◌≤◌, ◌&&◌, max, nat_eq, nat_lt, not, Bool, true, false, Option, Some, None, List, [], ◌∷◌, ◌++◌, map, length, slice_index_or, unwrap_or, if◌then◌else◌}
+use Rattle.std.specs.List.{position_or_len}
+use Rattle.std.specs.declared.cmp.Ordering.{Ordering}
+use Rattle.block_partition.specs.Partition.{block, home}
+use Rattle.block_partition.specs.contracts.relabelling.LabelOrd.TheImpl as label_ord
+-- what tells the blocks of a changed partition apart
+pub use Rattle.block_partition.specs.declared.relabelling.Label.{Label}
+pub use Rattle.block_partition.specs.declared.relabelling.Label.TheVariants.{Merged, Whole, Part}
 
 -- the numbers below n that pass a test, rising
 unfoldable pub kept : (ℕ → Bool) → ℕ → List ℕ
 kept test zero = []
 kept test (suc n) = kept test n ++ (if test n then n ∷ [] else [])
 
--- the label of a variable that is in no block
-abbrev pub no_label : ℕ
-no_label = 18446744073709551615
+-- the label of a variable, if it has one
+abbrev pub label : List (Option Label) → ℕ → Option Label
+label labels v = slice_index_or labels v None
+
+-- the order of labels that the code has
+abbrev pub label_cmp : Label → Label → Ordering
+label_cmp = (label_ord.ghosts).cmp
+
+unfoldable pub is_same_label : Label → Label → Bool
+is_same_label Merged Merged = true
+is_same_label (Whole a) (Whole b) = nat_eq a b
+is_same_label (Part a l) (Part b m) = nat_eq a b && nat_eq l m
+is_same_label _ _ = false
+
+-- two labels that may be missing are equal
+unfoldable pub is_same : Option Label → Option Label → Bool
+is_same None None = true
+is_same (Some l) (Some m) = is_same_label l m
+is_same _ _ = false
+
+-- the first variable with a label; the number of labels where none has it
+unfoldable pub first_with : List (Option Label) → Option Label → ℕ
+first_with labels l = position_or_len (λ m. is_same m l) labels
 
 -- two variables have one label
-unfoldable pub has_label_of : List ℕ → ℕ → ℕ → Bool
-has_label_of labels v w = nat_eq (member labels w) (member labels v)
+unfoldable pub has_label_of : List (Option Label) → ℕ → ℕ → Bool
+has_label_of labels v w = is_same (label labels w) (label labels v)
 
 -- a variable that has a label and is the first with it
-unfoldable pub is_leader : List ℕ → ℕ → Bool
-is_leader labels v = not (nat_eq (member labels v) no_label) && nat_eq (place labels (member labels v)) v
+unfoldable pub is_leader : List (Option Label) → ℕ → Bool
+is_leader labels v = not (is_same (label labels v) None) && nat_eq (first_with labels (label labels v)) v
 
 -- the variables with the label of v
-unfoldable pub group : List ℕ → ℕ → List ℕ
+unfoldable pub group : List (Option Label) → ℕ → List ℕ
 group labels v = kept (has_label_of labels v) (length labels)
 
-unfoldable pub grouped : List ℕ → List (List ℕ)
+unfoldable pub grouped : List (Option Label) → List (List ℕ)
 grouped labels = map (group labels) (kept (is_leader labels) (length labels))
 
--- the word for the number of no block
-abbrev pub no_block : ℕ
-no_block = 4294967295
+-- the number of a variable's block, if it is in one
+unfoldable pub home_of : List (List ℕ) → ℕ → Option ℕ
+home_of bs v = if nat_lt (home bs v) (length bs) then Some (home bs v) else None
 
--- the word for the number of a variable's block
-unfoldable pub home_word : List (List ℕ) → ℕ → ℕ
-home_word bs v = if nat_lt (home bs v) (length bs) then home bs v else no_block
+-- the number that stands for a variable
+abbrev pub home_at : List (Option ℕ) → ℕ → Option ℕ
+home_at homes v = slice_index_or homes v None
 
--- the words of all variables up to the last that is in a block, or further
-pub record IsHomes (bs : List (List ℕ)) (homes : List ℕ) : Type 0 where
+-- the numbers of the blocks of all variables up to the last that is in one, or further
+pub record IsHomes (bs : List (List ℕ)) (homes : List (Option ℕ)) : Type 0 where
   pub few : length homes ≤ 512
-  pub own : (v : ℕ) → v < length homes → member homes v ≡ home_word bs v
+  pub own : (v : ℕ) → v < length homes → home_at homes v ≡ home_of bs v
   pub rest : (v : ℕ) → length homes ≤ v → length bs ≤ home bs v
 
 -- a variable became the last member of a block, or of a new one
@@ -47,6 +73,7 @@ pub record IsPutIn (bs : List (List ℕ)) (b v : ℕ) (cs : List (List ℕ)) : T
   pub others : (k : ℕ) → (k ≡ b → ⊥) → block cs k ≡ block bs k
 
 -- a label's number: the one that it had, or else a fresh one, which it has from now on
-pub record IsNumbered (old : ℕ → Option ℕ) (label fresh s : ℕ) (new : ℕ → Option ℕ) : Type 0 where
+pub record IsNumbered (old : Label → Option ℕ) (label : Label) (fresh s : ℕ) (new : Label → Option ℕ) : Type 0 where
   pub number : s ≡ unwrap_or (old label) fresh
-  pub numbers : (q : ℕ) → new q ≡ (if nat_eq label q then Some s else old q)
+  pub here : new label ≡ Some s
+  pub others : (q : Label) → (label ≡ q → ⊥) → new q ≡ old q

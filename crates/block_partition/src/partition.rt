@@ -5,8 +5,8 @@ ghost use Rattle.block_partition.specs.Changes.{AreVariables, IsMergedBy, IsSpli
 ghost use Rattle.block_partition.specs.Grouping.{grouped};
 ghost use Rattle.block_partition.specs.Relabelling.{key as key_of, plain_label as plain_label_of, merged_label as merged_label_of, split_label as split_label_of, meet_label as meet_label_of, IsMarked, IsSpan, IsLabelled};
 
-use crate::grouping::{Grouped, NO_BLOCK, NO_LABEL, group_by};
-use crate::relabelling::{pair_label, part_label};
+use crate::grouping::{Grouped, group_by};
+use crate::relabelling::{Label, part_label};
 use memory::NoMemory;
 use std::alloc::Global;
 use std::marker::Model;
@@ -16,7 +16,7 @@ use std::marker::Model;
 pub struct Partition {
     alloc: Global,
     blocks: Vec<Vec<u32>>,
-    homes: Vec<u32>,
+    homes: Vec<Option<u32>>,
 }
 
 impl Model for Partition {
@@ -56,7 +56,7 @@ impl Partition {
     }
 
     // The partition that labels make.
-    fn from_labels(alloc: Global, labels: &[u64]) -> Result<Partition, NoMemory>
+    fn from_labels(alloc: Global, labels: &[Option<Label>]) -> Result<Partition, NoMemory>
         requires small { length labels.now ≤ 512 }
         ensures { IfOk result (λ p. p ≡ grouped labels.now) }
     {
@@ -90,12 +90,10 @@ impl Partition {
     {
         let at = v as usize;
         if at < self.homes.len() {
-            let b = self.homes[at];
-            if b != NO_BLOCK {
-                return Some(b);
-            }
+            self.homes[at]
+        } else {
+            None
         }
-        None
     }
 
     /// Law: the blocks are rising lists of variables below 512 that share none, aren't empty, and stand in the order of
@@ -108,13 +106,11 @@ impl Partition {
     }
 
     // The label that keeps a variable where it is.
-    fn plain_label(&self, v: u32) -> u64
+    fn plain_label(&self, v: u32) -> Option<Label>
         ensures { result ≡ plain_label_of self.now v }
     {
-        match self.block_of(v) {
-            Some(b) => pair_label(b, 0),
-            None => NO_LABEL,
-        }
+        let b = self.block_of(v)?;
+        Some(Label::Whole(b))
     }
 
     /// An equal partition. It takes time as a merge does.
@@ -173,13 +169,13 @@ impl Partition {
     }
 
     // The label of a variable after a merge of the marked blocks.
-    fn merged_label(&self, marks: &[bool], v: u32) -> u64
+    fn merged_label(&self, marks: &[bool], v: u32) -> Option<Label>
         requires small { v < 512 }
         requires size { length marks.now ≡ 1024 }
         ensures { result ≡ merged_label_of self.now marks.now v }
     {
         if marks[self.key(v)] {
-            pair_label(512, 0)
+            Some(Label::Merged)
         } else {
             self.plain_label(v)
         }
@@ -213,22 +209,18 @@ impl Partition {
     }
 
     // The label of a variable after block b was split by the labels of its members.
-    fn split_label(&self, b: u32, labels: &[u32], v: u32) -> u64
+    fn split_label(&self, b: u32, labels: &[u32], v: u32) -> Option<Label>
         requires block { b < length self.now }
         requires size { length labels.now ≡ length (block_at self.now b) }
         ensures { result ≡ split_label_of self.now b labels.now v }
     {
         self.known();
-        match self.block_of(v) {
-            Some(a) => {
-                if a == b {
-                    let i = place_of(self.block(b), v);
-                    part_label(b, labels[i])
-                } else {
-                    pair_label(a, 0)
-                }
-            }
-            None => NO_LABEL,
+        let a = self.block_of(v)?;
+        if a == b {
+            let i = place_of(self.block(b), v);
+            part_label(b, labels[i])
+        } else {
+            Some(Label::Whole(a))
         }
     }
 
@@ -242,7 +234,6 @@ impl Partition {
         for v in 0..self.homes.len() {
             made.push(self.split_label(b, labels, v as u32))?;
         }
-        self.known();
         let p = Partition::from_labels(self.alloc, &made)?;
         Ok(p)
     }
@@ -260,16 +251,12 @@ impl Partition {
     }
 
     // The label of a variable in the meet.
-    fn meet_label(&self, other: &Partition, v: u32) -> u64
+    fn meet_label(&self, other: &Partition, v: u32) -> Option<Label>
         ensures { result ≡ meet_label_of self.now other.now v }
     {
-        match self.block_of(v) {
-            Some(a) => match other.block_of(v) {
-                Some(b) => pair_label(a, b),
-                None => NO_LABEL,
-            },
-            None => NO_LABEL,
-        }
+        let a = self.block_of(v)?;
+        let b = other.block_of(v)?;
+        Some(Label::Part(a, b))
     }
 
     /// The intersections of the blocks of two partitions that aren't empty. It takes time as a merge does.
@@ -280,8 +267,6 @@ impl Partition {
         for v in 0..a.homes.len() {
             labels.push(a.meet_label(b, v as u32))?;
         }
-        a.known();
-        b.known();
         let p = Partition::from_labels(alloc, &labels)?;
         Ok(p)
     }

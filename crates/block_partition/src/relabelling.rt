@@ -1,23 +1,26 @@
-// Labels made of the numbers of blocks.
+// Labels of variables: two variables get one label exactly where they are to share a block.
 ghost use Rattle.std.specs.Prelude.{◌≡◌};
-ghost use Rattle.block_partition.specs.Relabelling.{pair_label as label_of_pair, part_label as label_of_part};
+ghost use Rattle.block_partition.specs.Relabelling.{part_label as label_of_part};
 
-use crate::grouping::NO_LABEL;
-
-/// One label for two numbers.
-pub(crate) fn pair_label(a: u32, b: u32) -> u64
-    ensures { result ≡ label_of_pair a b }
-{
-    4294967296 * a as u64 + b as u64
+/// What tells the blocks of a changed partition apart.
+#[derive(Clone, Copy, PartialEq, Eq, PartialOrd, Ord)]
+pub(crate) enum Label {
+    /// The block that a merge makes.
+    Merged,
+    /// The block with this number, which stays whole.
+    Whole(u32),
+    /// The part of the block with the first number whose members have the second one: a label of a split, or the number of
+    /// a block of another partition.
+    Part(u32, u32),
 }
 
 /// The label of a member of block b that has its label of a split.
-pub(crate) fn part_label(b: u32, label: u32) -> u64
+pub(crate) fn part_label(b: u32, label: u32) -> Option<Label>
     ensures { result ≡ label_of_part b label }
 {
     if label == u32::MAX {
-        NO_LABEL
+        None
     } else {
-        pair_label(b, label)
+        Some(Label::Part(b, label))
     }
 }

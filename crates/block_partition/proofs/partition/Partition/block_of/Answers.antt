@@ -1,13 +1,10 @@
-use Rattle.std.proofs.Common.{◌≡◌, length, rules}
-use Rattle.block_partition.proofs.Relabelled.{found_at, free_at}
+use Rattle.std.proofs.Common.{◌≡◌, ◌∙◌, None, length, rules, arith}
+use Rattle.std.proofs.lemmas.List.{get_or_default}
+use Rattle.block_partition.proofs.Relabelled.{home-read}
 use Rattle.block_partition.proofs.partition.Partition.block_of.Goals as goal
 
-pub returns-then-b : goal.returns-then-b
-returns-then-b c =
-    let n : c.len.result ≡ length c.self.inside.homes.items = search rules in
-    found_at _ c.args.self.now c.self.inside.homes.items c.args.v c.index-b.result.now c.len.result c.self.view_is c.self.invariant.2 c.if-at-len.true n c.index-b.ensures c.if-b.true
-
-pub returns-else-b : goal.returns-else-b
-returns-else-b c =
-    let n : c.len.result ≡ length c.self.inside.homes.items = search rules in
-    free_at _ c.args.self.now c.self.inside.homes.items c.args.v c.index-b.result.now c.len.result c.self.view_is c.self.invariant.0 c.self.invariant.1 c.self.invariant.2 c.if-at-len.true n c.index-b.ensures c.if-b.false
+pub returns-then-at-len : goal.returns-then-at-len
+returns-then-at-len c =
+    let homes = c.self.inside.homes.items in
+    let n : c.len.result ≡ length homes = search rules in
+    home-read _ c.args.self.now homes c.args.v c.index.result.now c.self.view_is c.self.invariant.2 (omega arith) (c.index.ensures ∙ get_or_default homes c.args.v c.index.result.now None (omega arith))

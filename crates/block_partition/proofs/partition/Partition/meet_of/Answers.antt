@@ -8,4 +8,4 @@ returns c =
     let homes = c.a.inside.homes.items in
     let n : c.len-v-end.result ≡ length homes = search rules in
     let labelled = labelled-all _ c.loop-v.labels.items c.loop-v.v (length homes) c.loop-v.invariant (omega arith) c.a.invariant.2.few (λ k p. meet-rest _ c.args.a.now c.args.b.now homes k c.a.view_is c.a.invariant.2 p) in
-    meet-labels c.args.a.now c.args.b.now _ _ c.known.ensures.partition c.known.ensures.ordered c.known-2.ensures.partition c.known-2.ensures.ordered labelled (c.in_ok-p.ensures ∙ ap grouped c.deref.ensures.value)
+    meet-labels c.args.a.now c.args.b.now _ _ labelled (c.in_ok-p.ensures ∙ ap grouped c.deref.ensures.value)

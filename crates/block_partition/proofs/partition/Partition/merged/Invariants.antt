@@ -1,8 +1,8 @@
 use Rattle.std.proofs.Common.{◌≡◌, ℕ, ◌<◌, length}
-use Rattle.block_partition.specs.Partition.{member}
+use Rattle.block_partition.specs.Grouping.{label}
 use Rattle.block_partition.specs.Relabelling.{merged_label}
 use Rattle.block_partition.proofs.partition.Partition.merged.Given as goal
 
 -- the labels so far
 abbrev pub invariant-loop-v : goal.invariant-loop-v
-invariant-loop-v l = (length l.labels.items ≡ l.v) × ((k : ℕ) → k < l.v → member l.labels.items k ≡ merged_label l.self l.marks.items k)
+invariant-loop-v l = (length l.labels.items ≡ l.v) × ((k : ℕ) → k < l.v → label l.labels.items k ≡ merged_label l.self l.marks.items k)

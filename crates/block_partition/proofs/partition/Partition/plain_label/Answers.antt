@@ -2,8 +2,8 @@ use Rattle.std.proofs.Common.{◌∙◌}
 use Rattle.block_partition.proofs.Relabelled.{plain-some, plain-none}
 use Rattle.block_partition.proofs.partition.Partition.plain_label.Goals as goal
 
-pub returns-in-Some : goal.returns-in-Some
-returns-in-Some c = c.pair_label.ensures ∙ plain-some c.args.self.now c.args.v c.in-Some.b c.in-Some.ensures
+pub returns-in_err-b : goal.returns-in_err-b
+returns-in_err-b c = c.from_residual.ensures ∙ plain-none c.args.self.now c.args.v c.in_err-b.ensures
 
-pub returns-in-None : goal.returns-in-None
-returns-in-None c = plain-none c.args.self.now c.args.v c.in-None.ensures
+pub returns : goal.returns
+returns c = plain-some c.args.self.now c.args.v c.in_ok-b.b c.in_ok-b.ensures

@@ -8,4 +8,4 @@ returns c =
     let homes = c.self.inside.homes.items in
     let n : c.len-v-end.result ≡ length homes = search rules in
     let labelled = labelled-all _ c.loop-v.made.items c.loop-v.v (length homes) c.loop-v.invariant (omega arith) c.self.invariant.2.few (λ k p. split-rest _ c.args.self.now c.args.b c.args.labels.now homes k c.self.view_is c.self.invariant.2 c.requires.block p) in
-    split-labels c.args.self.now _ c.args.b c.args.labels.now _ c.known.ensures.partition c.known.ensures.ordered c.requires.block (λ i. c.type_inv.labels i) labelled (c.in_ok-p.ensures ∙ ap grouped c.deref.ensures.value)
+    split-labels c.args.self.now _ c.args.b c.args.labels.now _ labelled (c.in_ok-p.ensures ∙ ap grouped c.deref.ensures.value)
