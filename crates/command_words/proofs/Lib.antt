@@ -1,4 +1,5 @@
 pub mod Shape
+pub mod Limits
 pub mod Looks
 pub mod Turns
 pub mod Given

@@ -8,7 +8,7 @@ mod number;
 mod texts;
 
 pub use command::{Command, WordsFault, read_words};
-pub use laws::law_spelling;
+pub use laws::{law_limits, law_spelling};
 
 #[cfg(test)]
 mod tests;
