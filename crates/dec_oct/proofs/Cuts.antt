@@ -159,7 +159,7 @@ cut-components n k bs ms cs few ps pc last h = record { partition = partition; e
     back : (u w : ℕ) → u < 512 → w < 512 → Linked m u w → SameBlock cs u w
     back u w p q l = (h.exact u w p q).1 (linked-same n bs m (length-assembly n bs ms) (separated-assembly n bs ms) u w l, λ z. l)
 
-zero_diagonal-even : (n : ℕ) (m : Matrix) → IsEvenMatrix n m → IsZeroDiagonal n m
+pub zero_diagonal-even : (n : ℕ) (m : Matrix) → IsEvenMatrix n m → IsZeroDiagonal n m
 zero_diagonal-even n m v = record { zero = λ i p. v.matrix.diagonal i (let e = v.matrix.rows in omega arith) }
 
 pub square-part : (vs : List ℕ) (m : Matrix) → IsSquare (restrict vs m)

@@ -12,6 +12,7 @@ mod made;
 mod marks;
 mod merge;
 mod parts;
+mod reading;
 mod same;
 mod tabulate;
 #[cfg(test)]
@@ -20,4 +21,5 @@ mod value;
 mod walk;
 
 pub use memory::NoMemory;
+pub use same::same_matrix;
 pub use value::{DecOct, Parts};

@@ -11,8 +11,8 @@ use half_matrix::HalfMatrix;
 use memory::NoMemory;
 use std::alloc::Global;
 
-// Whether a block with its matrix is a marked one of some blocks.
-fn is_marked_block(
+/// Whether a block with its matrix is a marked one of some blocks.
+pub(crate) fn is_marked_block(
     partition: &Partition,
     matrices: &[HalfMatrix],
     settled: &[bool],

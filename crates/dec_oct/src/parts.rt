@@ -43,8 +43,8 @@ pub(crate) fn block_with(partition: &Partition, members: &[u32]) -> Option<u32>
     }
 }
 
-// The part over some members of an assembly. The matrix of a block that has just these members is shared.
-fn part(
+/// The part over some members of an assembly. The matrix of a block that has just these members is shared.
+pub(crate) fn part(
     alloc: Global,
     partition: &Partition,
     matrices: &[HalfMatrix],

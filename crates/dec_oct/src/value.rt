@@ -41,8 +41,8 @@ pub struct Parts {
 /// Bottom, or the components of a value over at most 512 variables. Other values may share the blocks.
 #[derive(Drop)]
 pub struct DecOct {
-    dims: u32,
-    held: Option<Rc<Held>>,
+    pub(crate) dims: u32,
+    pub(crate) held: Option<Rc<Held>>,
 }
 
 impl Model for DecOct {

@@ -1,0 +1,156 @@
+-- The values that are made of two values.
+use Rattle.std.proofs.Common.{◌≡◌, ℕ, ◌*◌, ◌<◌, ◌≤◌, Bool, List, [], length, Option, Some, None, refl, sym, ap, ◌∙◌, subst, arith}
+use Rattle.std.specs.Prelude.{IsSome, IfSome}
+use Rattle.std.specs.Option.{option_map}
+use Rattle.oct_def.specs.Table.{Matrix}
+use Rattle.oct_def.specs.Octagon.{Octagon, on_either, on_both, join_matrix, join_entry, join_value, widen_matrix, widen_entry, widen_value, narrow_matrix, narrow_entry, narrow_value, bottom_value}
+use Rattle.block_laws.specs.Assembly.{assembly}
+use Rattle.dec_oct.specs.Value.{Blocks, blocks_of, whole, Decomposed, octagon, octagon_of, IsDecomposition, IsKept, IsKeptBlocks}
+use Rattle.dec_oct.specs.Given.{KeepsMarks, KeepsMarksOf}
+use Rattle.dec_lattice.specs.declared.operation.Operation.{Operation}
+use Rattle.dec_lattice.specs.declared.operation.Operation.TheVariants.{Join, Widening, Narrowing}
+use Rattle.dec_lattice.specs.Operation.{combined_entry, combined_matrix, either_value}
+use Rattle.dec_lattice.specs.Over.{held_of, held, AreSides}
+use Rattle.dec_lattice.specs.Marks.{KeepsEither, KeepsEitherOf, JoinsMarks, NarrowsMarks}
+use Rattle.dec_lattice.proofs.Marked.{ArePartsOver, parts-over, keeps-either}
+
+-- ---- the blocks of a value that isn't Bottom
+
+pub if-held : (o : Option Blocks) (P : Blocks → Type 0) → IsSome o → IfSome o P → P (held_of o)
+if-held None P s h = absurd s
+if-held (Some b) P s h = h
+
+kept-held : (n : ℕ) (o : Option Blocks) → IsSome o → IsKeptBlocks n o → IsDecomposition n (held_of o)
+kept-held n None s k = absurd s
+kept-held n (Some b) s k = k
+
+pub first-side : (a b : Decomposed) → AreSides a b → IsKept a → IsDecomposition a.dims (held a)
+first-side a b s k = kept-held a.dims a.blocks s.first k.blocks
+
+pub second-side : (a b : Decomposed) → AreSides a b → IsKept b → IsDecomposition a.dims (held b)
+second-side a b s k = subst (λ n. IsDecomposition n (held b)) (sym s.dims) (kept-held b.dims b.blocks s.second k.blocks)
+
+-- ---- the result
+
+pub value-over : (op : Operation) (n : ℕ) (a b : Blocks) (ds : List (List ℕ)) (ms : List Matrix) (marks : List Bool) (v : Decomposed) → ArePartsOver op n a b ds ms marks → octagon v ≡ octagon_of n (Some (assembly n ds ms))
+    → octagon v ≡ octagon_of n (Some (combined_matrix op (whole n a) (whole n b)))
+value-over op n a b ds ms marks v h e = e ∙ ap (λ m. octagon_of n (Some m)) (parts-over op n a b ds ms marks h).1
+
+pub marks-over : (op : Operation) (n : ℕ) (a b : Blocks) (ds : List (List ℕ)) (ms : List Matrix) (marks : List Bool) (v : Decomposed) → ArePartsOver op n a b ds ms marks → octagon v ≡ octagon_of n (Some (assembly n ds ms)) → IsKept v → KeepsMarksOf (blocks_of ds ms marks) v.blocks
+    → KeepsEitherOf a b v.blocks
+marks-over op n a b ds ms marks v h e k m = by v.dims v.blocks (ap (λ z. z.dims) f) (ap (λ z. z.matrix) f) k.blocks m
+  where
+    f : octagon v ≡ octagon_of n (Some (combined_matrix op (whole n a) (whole n b)))
+    f = value-over op n a b ds ms marks v h e
+
+    by : (d : ℕ) (o : Option Blocks) → d ≡ n → option_map (whole d) o ≡ Some (combined_matrix op (whole n a) (whole n b)) → IsKeptBlocks d o → KeepsMarksOf (blocks_of ds ms marks) o → KeepsEitherOf a b o
+    by d None g j k m = absurd (cc)
+    by d (Some r) g j k m =
+        let w : whole d r ≡ combined_matrix op (whole n a) (whole n b) = cc in
+        keeps-either op n a b r ds ms marks h (subst (λ t. IsDecomposition t r) g k) (ap (λ t. whole t r) (sym g) ∙ w) m
+
+-- ---- what the definitions say
+
+either-of : Operation → ℕ → ℕ → Option Blocks → Option Blocks → Octagon
+either-of op k l x y = octagon_of k (on_either (combined_matrix op) (option_map (whole k) x) (option_map (whole l) y))
+
+either-right : (op : Operation) (k l : ℕ) (y : Option Blocks) → k ≡ l → octagon_of l (option_map (whole l) y) ≡ either-of op k l None y
+unfolding either-of
+either-right op k l y e = ap (λ t. octagon_of t (option_map (whole l) y)) (sym e)
+
+either-left : (op : Operation) (k l : ℕ) (x : Option Blocks) → octagon_of k (option_map (whole k) x) ≡ either-of op k l x None
+unfolding either-of
+either-left op k l None = refl
+either-left op k l (Some x) = refl
+
+either-each : (op : Operation) (k l : ℕ) (x y : Option Blocks) → k ≡ l → IsSome x → IsSome y → octagon_of k (Some (combined_matrix op (whole k (held_of x)) (whole k (held_of y)))) ≡ either-of op k l x y
+unfolding either-of
+either-each op k l None y e s t = absurd s
+either-each op k l (Some x) None e s t = absurd t
+either-each op k l (Some x) (Some y) e s t = ap (λ z. octagon_of k (Some (combined_matrix op (whole k x) (whole z y)))) e
+
+pub either-first : (op : Operation) (v a b : Decomposed) → a.dims ≡ b.dims → a.blocks ≡ None → v ≡ b → octagon v ≡ either_value op (octagon a) (octagon b)
+unfolding either_value either-of
+either-first op v a b e f g = ap octagon g ∙ either-right op a.dims b.dims b.blocks e ∙ ap (λ x. either-of op a.dims b.dims x b.blocks) (sym f)
+
+pub either-second : (op : Operation) (v a b : Decomposed) → b.blocks ≡ None → v ≡ a → octagon v ≡ either_value op (octagon a) (octagon b)
+unfolding either_value either-of
+either-second op v a b f g = ap octagon g ∙ either-left op a.dims b.dims a.blocks ∙ ap (either-of op a.dims b.dims a.blocks) (sym f)
+
+pub either-both : (op : Operation) (v a b : Decomposed) → AreSides a b → octagon v ≡ octagon_of a.dims (Some (combined_matrix op (whole a.dims (held a)) (whole a.dims (held b)))) → octagon v ≡ either_value op (octagon a) (octagon b)
+unfolding either_value either-of
+either-both op v a b s e = e ∙ either-each op a.dims b.dims a.blocks b.blocks s.dims s.first s.second
+
+pub marks-first : (v a b : Decomposed) → a.blocks ≡ None → v ≡ b → JoinsMarks a.blocks b.blocks v.blocks
+marks-first v a b f g = subst (λ x. JoinsMarks x b.blocks v.blocks) (sym f) (ap (λ z. z.blocks) g)
+
+pub marks-second : (v a b : Decomposed) → IsSome a.blocks → b.blocks ≡ None → v ≡ a → JoinsMarks a.blocks b.blocks v.blocks
+marks-second v a b s f g = by a.blocks b.blocks v.blocks s f (ap (λ z. z.blocks) g)
+  where
+    by : (x y r : Option Blocks) → IsSome x → y ≡ None → r ≡ x → JoinsMarks x y r
+    by None y r s e f = absurd s
+    by (Some x) None r s e f = f
+    by (Some x) (Some y) r s e f = absurd (cc)
+
+pub marks-both : (v a b : Decomposed) → AreSides a b → KeepsEitherOf (held a) (held b) v.blocks → JoinsMarks a.blocks b.blocks v.blocks
+marks-both v a b s h = by a.blocks b.blocks s.first s.second h
+  where
+    by : (x y : Option Blocks) → IsSome x → IsSome y → KeepsEitherOf (held_of x) (held_of y) v.blocks → JoinsMarks x y v.blocks
+    by None y s t h = absurd s
+    by (Some x) None s t h = absurd t
+    by (Some x) (Some y) s t h = h
+
+-- ---- the three operations
+
+pub either-join : (a b : Octagon) → either_value Join a b ≡ join_value a b
+unfolding either_value join_value combined_matrix combined_entry join_matrix join_entry
+either-join a b = refl
+
+pub either-widen : (a b : Octagon) → either_value Widening a b ≡ widen_value a b
+unfolding either_value widen_value combined_matrix combined_entry widen_matrix widen_entry
+either-widen a b = refl
+
+narrow-of : ℕ → ℕ → Option Blocks → Option Blocks → Octagon
+narrow-of k l x y = octagon_of k (on_both narrow_matrix (option_map (whole k) x) (option_map (whole l) y))
+
+narrow-none : (k l : ℕ) (x : Option Blocks) → octagon_of k None ≡ narrow-of k l x None
+unfolding narrow-of
+narrow-none k l None = refl
+narrow-none k l (Some x) = refl
+
+narrow-each : (k l : ℕ) (x y : Option Blocks) → k ≡ l → IsSome x → IsSome y → octagon_of k (Some (combined_matrix Narrowing (whole k (held_of x)) (whole k (held_of y)))) ≡ narrow-of k l x y
+unfolding narrow-of combined_matrix combined_entry narrow_matrix narrow_entry
+narrow-each k l None y e s t = absurd s
+narrow-each k l (Some x) None e s t = absurd t
+narrow-each k l (Some x) (Some y) e s t = ap (λ z. octagon_of k (Some (narrow_matrix (whole k x) (whole z y)))) e
+
+pub narrow-first : (n : ℕ) (v a b : Decomposed) → n ≡ a.dims → a.blocks ≡ None → octagon v ≡ bottom_value n → octagon v ≡ narrow_value (octagon a) (octagon b)
+unfolding narrow_value narrow-of bottom_value
+narrow-first n v a b e f g = g ∙ ap (λ t. octagon_of t None) e ∙ ap (λ x. narrow-of a.dims b.dims x b.blocks) (sym f)
+
+pub narrow-second : (n : ℕ) (v a b : Decomposed) → n ≡ a.dims → b.blocks ≡ None → octagon v ≡ bottom_value n → octagon v ≡ narrow_value (octagon a) (octagon b)
+unfolding narrow_value narrow-of bottom_value
+narrow-second n v a b e f g = g ∙ ap (λ t. octagon_of t None) e ∙ narrow-none a.dims b.dims a.blocks ∙ ap (narrow-of a.dims b.dims a.blocks) (sym f)
+
+pub narrow-both : (v a b : Decomposed) → AreSides a b → octagon v ≡ octagon_of a.dims (Some (combined_matrix Narrowing (whole a.dims (held a)) (whole a.dims (held b)))) → octagon v ≡ narrow_value (octagon a) (octagon b)
+unfolding narrow_value narrow-of
+narrow-both v a b s e = e ∙ narrow-each a.dims b.dims a.blocks b.blocks s.dims s.first s.second
+
+pub narrows-first : (v a b : Decomposed) → a.blocks ≡ None → v.blocks ≡ None → NarrowsMarks a.blocks b.blocks v.blocks
+narrows-first v a b f g = subst (λ x. NarrowsMarks x b.blocks v.blocks) (sym f) g
+
+pub narrows-second : (v a b : Decomposed) → b.blocks ≡ None → v.blocks ≡ None → NarrowsMarks a.blocks b.blocks v.blocks
+narrows-second v a b f g = by a.blocks b.blocks f
+  where
+    by : (x y : Option Blocks) → y ≡ None → NarrowsMarks x y v.blocks
+    by None y e = g
+    by (Some x) None e = g
+    by (Some x) (Some y) e = absurd (cc)
+
+pub narrows-both : (v a b : Decomposed) → AreSides a b → KeepsEitherOf (held a) (held b) v.blocks → NarrowsMarks a.blocks b.blocks v.blocks
+narrows-both v a b s h = by a.blocks b.blocks s.first s.second h
+  where
+    by : (x y : Option Blocks) → IsSome x → IsSome y → KeepsEitherOf (held_of x) (held_of y) v.blocks → NarrowsMarks x y v.blocks
+    by None y s t h = absurd s
+    by (Some x) None s t h = absurd t
+    by (Some x) (Some y) s t h = h
