@@ -4,7 +4,7 @@ use Rattle.std.specs.Prelude.{IsSome, IfSome}
 use Rattle.std.specs.Option.{option_map}
 use Rattle.oct_def.specs.Table.{Matrix}
 use Rattle.oct_def.specs.Octagon.{Octagon, on_either, on_both, join_matrix, join_entry, join_value, widen_matrix, widen_entry, widen_value, narrow_matrix, narrow_entry, narrow_value, bottom_value}
-use Rattle.block_laws.specs.Assembly.{assembly}
+use Rattle.block_laws.specs.Assembly.{restrict, assembly}
 use Rattle.dec_oct.specs.Value.{Blocks, blocks_of, whole, Decomposed, octagon, octagon_of, IsDecomposition, IsKept, IsKeptBlocks}
 use Rattle.dec_oct.specs.Given.{KeepsMarks, KeepsMarksOf}
 use Rattle.dec_lattice.specs.declared.operation.Operation.{Operation}
@@ -17,11 +17,11 @@ use Rattle.dec_lattice.proofs.Marked.{ArePartsOver, parts-over, keeps-either}
 -- ---- the blocks of a value that isn't Bottom
 
 pub if-held : (o : Option Blocks) (P : Blocks → Type 0) → IsSome o → IfSome o P → P (held_of o)
-if-held None P s h = absurd s
+if-held None P s h = absurd (cc)
 if-held (Some b) P s h = h
 
 kept-held : (n : ℕ) (o : Option Blocks) → IsSome o → IsKeptBlocks n o → IsDecomposition n (held_of o)
-kept-held n None s k = absurd s
+kept-held n None s k = absurd (cc)
 kept-held n (Some b) s k = k
 
 pub first-side : (a b : Decomposed) → AreSides a b → IsKept a → IsDecomposition a.dims (held a)
@@ -29,6 +29,13 @@ first-side a b s k = kept-held a.dims a.blocks s.first k.blocks
 
 pub second-side : (a b : Decomposed) → AreSides a b → IsKept b → IsDecomposition a.dims (held b)
 second-side a b s k = subst (λ n. IsDecomposition n (held b)) (sym s.dims) (kept-held b.dims b.blocks s.second k.blocks)
+
+-- parts of the two sides
+pub first-part : (a b : Decomposed) (vs : List ℕ) (x : Matrix) → AreSides a b → IfSome a.blocks (λ h. x ≡ restrict vs (whole a.dims h)) → x ≡ restrict vs (whole a.dims (held a))
+first-part a b vs x s h = if-held a.blocks (λ t. x ≡ restrict vs (whole a.dims t)) s.first h
+
+pub second-part : (a b : Decomposed) (vs : List ℕ) (x : Matrix) → AreSides a b → IfSome b.blocks (λ h. x ≡ restrict vs (whole b.dims h)) → x ≡ restrict vs (whole a.dims (held b))
+second-part a b vs x s h = if-held b.blocks (λ t. x ≡ restrict vs (whole b.dims t)) s.second h ∙ ap (λ n. restrict vs (whole n (held b))) (sym s.dims)
 
 -- ---- the result
 
@@ -65,8 +72,8 @@ either-left op k l (Some x) = refl
 
 either-each : (op : Operation) (k l : ℕ) (x y : Option Blocks) → k ≡ l → IsSome x → IsSome y → octagon_of k (Some (combined_matrix op (whole k (held_of x)) (whole k (held_of y)))) ≡ either-of op k l x y
 unfolding either-of
-either-each op k l None y e s t = absurd s
-either-each op k l (Some x) None e s t = absurd t
+either-each op k l None y e s t = absurd (cc)
+either-each op k l (Some x) None e s t = absurd (cc)
 either-each op k l (Some x) (Some y) e s t = ap (λ z. octagon_of k (Some (combined_matrix op (whole k x) (whole z y)))) e
 
 pub either-first : (op : Operation) (v a b : Decomposed) → a.dims ≡ b.dims → a.blocks ≡ None → v ≡ b → octagon v ≡ either_value op (octagon a) (octagon b)
@@ -88,7 +95,7 @@ pub marks-second : (v a b : Decomposed) → IsSome a.blocks → b.blocks ≡ Non
 marks-second v a b s f g = by a.blocks b.blocks v.blocks s f (ap (λ z. z.blocks) g)
   where
     by : (x y r : Option Blocks) → IsSome x → y ≡ None → r ≡ x → JoinsMarks x y r
-    by None y r s e f = absurd s
+    by None y r s e f = absurd (cc)
     by (Some x) None r s e f = f
     by (Some x) (Some y) r s e f = absurd (cc)
 
@@ -96,8 +103,8 @@ pub marks-both : (v a b : Decomposed) → AreSides a b → KeepsEitherOf (held a
 marks-both v a b s h = by a.blocks b.blocks s.first s.second h
   where
     by : (x y : Option Blocks) → IsSome x → IsSome y → KeepsEitherOf (held_of x) (held_of y) v.blocks → JoinsMarks x y v.blocks
-    by None y s t h = absurd s
-    by (Some x) None s t h = absurd t
+    by None y s t h = absurd (cc)
+    by (Some x) None s t h = absurd (cc)
     by (Some x) (Some y) s t h = h
 
 -- ---- the three operations
@@ -120,8 +127,8 @@ narrow-none k l (Some x) = refl
 
 narrow-each : (k l : ℕ) (x y : Option Blocks) → k ≡ l → IsSome x → IsSome y → octagon_of k (Some (combined_matrix Narrowing (whole k (held_of x)) (whole k (held_of y)))) ≡ narrow-of k l x y
 unfolding narrow-of combined_matrix combined_entry narrow_matrix narrow_entry
-narrow-each k l None y e s t = absurd s
-narrow-each k l (Some x) None e s t = absurd t
+narrow-each k l None y e s t = absurd (cc)
+narrow-each k l (Some x) None e s t = absurd (cc)
 narrow-each k l (Some x) (Some y) e s t = ap (λ z. octagon_of k (Some (narrow_matrix (whole k x) (whole z y)))) e
 
 pub narrow-first : (n : ℕ) (v a b : Decomposed) → n ≡ a.dims → a.blocks ≡ None → octagon v ≡ bottom_value n → octagon v ≡ narrow_value (octagon a) (octagon b)
@@ -151,6 +158,6 @@ pub narrows-both : (v a b : Decomposed) → AreSides a b → KeepsEitherOf (held
 narrows-both v a b s h = by a.blocks b.blocks s.first s.second h
   where
     by : (x y : Option Blocks) → IsSome x → IsSome y → KeepsEitherOf (held_of x) (held_of y) v.blocks → NarrowsMarks x y v.blocks
-    by None y s t h = absurd s
-    by (Some x) None s t h = absurd t
+    by None y s t h = absurd (cc)
+    by (Some x) None s t h = absurd (cc)
     by (Some x) (Some y) s t h = h

@@ -56,11 +56,11 @@ pub(crate) fn coarser(
     b.known();
     let mut made = a.copy(alloc)?;
     for c in 0..b.len() {
-        made.known();
         let members = b.block(c);
         if !are_together(&made, members) {
             made.merge(members)?;
         }
+        made.known();
     }
     Ok(made)
 }

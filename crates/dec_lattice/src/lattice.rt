@@ -1,5 +1,5 @@
 // The calls.
-ghost use Rattle.std.specs.Prelude.{◌≡◌, ⊥, IfOk};
+ghost use Rattle.std.specs.Prelude.{◌≡◌, IfOk};
 ghost use Rattle.oct_def.specs.Octagon.{join_value, widen_value, narrow_value};
 ghost use Rattle.dec_oct.specs.Value.{octagon};
 ghost use Rattle.dec_lattice.specs.Operation.{either_value};

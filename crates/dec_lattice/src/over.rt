@@ -1,5 +1,5 @@
 // Two values combined over a partition that keeps apart what the result keeps apart.
-ghost use Rattle.std.specs.Prelude.{◌≡◌, ℕ, ◌<◌, IfOk, Some, length, true, false, ⊥};
+ghost use Rattle.std.specs.Prelude.{◌≡◌, ℕ, ◌<◌, IfOk, Some, length, true, false};
 ghost use Rattle.block_partition.specs.Partition.{block, IsBlock, IsPartition};
 ghost use Rattle.block_laws.specs.Assembly.{matrix, restrict};
 ghost use Rattle.dec_oct.specs.Value.{octagon, octagon_of, whole};
