@@ -4,14 +4,15 @@ use Rattle.std.specs.Prelude.{IsSome, IfSome}
 use Rattle.std.specs.Option.{option_map}
 use Rattle.oct_def.specs.Table.{Matrix}
 use Rattle.oct_def.specs.Octagon.{Octagon, on_either, on_both, join_matrix, join_entry, join_value, widen_matrix, widen_entry, widen_value, narrow_matrix, narrow_entry, narrow_value, bottom_value}
-use Rattle.block_laws.specs.Assembly.{restrict, assembly}
+use Rattle.block_partition.specs.Partition.{block}
+use Rattle.block_laws.specs.Assembly.{matrix, restrict, assembly}
 use Rattle.dec_oct.specs.Value.{Blocks, blocks_of, whole, Decomposed, octagon, octagon_of, IsDecomposition, IsKept, IsKeptBlocks}
-use Rattle.dec_oct.specs.Given.{KeepsMarks, KeepsMarksOf}
+use Rattle.dec_oct.specs.Given.{KeepsMarksOf}
 use Rattle.dec_lattice.specs.declared.operation.Operation.{Operation}
 use Rattle.dec_lattice.specs.declared.operation.Operation.TheVariants.{Join, Widening, Narrowing}
 use Rattle.dec_lattice.specs.Operation.{combined_entry, combined_matrix, either_value}
-use Rattle.dec_lattice.specs.Over.{held_of, held, AreSides}
-use Rattle.dec_lattice.specs.Marks.{KeepsEither, KeepsEitherOf, JoinsMarks, NarrowsMarks}
+use Rattle.dec_lattice.specs.Over.{held_of, held, AreSides, IsOver}
+use Rattle.dec_lattice.specs.Marks.{TellsEither, KeepsEitherOf}
 use Rattle.dec_lattice.proofs.Marked.{ArePartsOver, parts-over, keeps-either}
 
 -- ---- the blocks of a value that isn't Bottom
@@ -38,6 +39,17 @@ pub second-part : (a b : Decomposed) (vs : List ℕ) (x : Matrix) → AreSides a
 second-part a b vs x s h = if-held b.blocks (λ t. x ≡ restrict vs (whole b.dims t)) s.second h ∙ ap (λ n. restrict vs (whole n (held b))) (sym s.dims)
 
 -- ---- the result
+
+pub parts-of : (op : Operation) (a b : Decomposed) (ds : List (List ℕ)) (ms ts : List Matrix) (marks : List Bool) → AreSides a b → IsKept a → IsKept b → IsOver op a.dims (held a) (held b) ds → length ms ≡ length ds
+    → ((c : ℕ) → c < length ds → matrix ms c ≡ combined_matrix op (restrict (block ds c) (whole a.dims (held a))) (restrict (block ds c) (whole a.dims (held b)))) → ts ≡ ms → TellsEither (held a) (held b) ds ts marks → ArePartsOver op a.dims (held a) (held b) ds ms marks
+parts-of op a b ds ms ts marks s ka kb o size each e told = record {
+  first = first-side a b s ka;
+  second = second-side a b s kb;
+  over = o;
+  count = size;
+  each = each;
+  told = subst (λ t. TellsEither (held a) (held b) ds t marks) e told;
+}
 
 pub value-over : (op : Operation) (n : ℕ) (a b : Blocks) (ds : List (List ℕ)) (ms : List Matrix) (marks : List Bool) (v : Decomposed) → ArePartsOver op n a b ds ms marks → octagon v ≡ octagon_of n (Some (assembly n ds ms))
     → octagon v ≡ octagon_of n (Some (combined_matrix op (whole n a) (whole n b)))
@@ -88,25 +100,6 @@ pub either-both : (op : Operation) (v a b : Decomposed) → AreSides a b → oct
 unfolding either_value either-of
 either-both op v a b s e = e ∙ either-each op a.dims b.dims a.blocks b.blocks s.dims s.first s.second
 
-pub marks-first : (v a b : Decomposed) → a.blocks ≡ None → v ≡ b → JoinsMarks a.blocks b.blocks v.blocks
-marks-first v a b f g = subst (λ x. JoinsMarks x b.blocks v.blocks) (sym f) (ap (λ z. z.blocks) g)
-
-pub marks-second : (v a b : Decomposed) → IsSome a.blocks → b.blocks ≡ None → v ≡ a → JoinsMarks a.blocks b.blocks v.blocks
-marks-second v a b s f g = by a.blocks b.blocks v.blocks s f (ap (λ z. z.blocks) g)
-  where
-    by : (x y r : Option Blocks) → IsSome x → y ≡ None → r ≡ x → JoinsMarks x y r
-    by None y r s e f = absurd (cc)
-    by (Some x) None r s e f = f
-    by (Some x) (Some y) r s e f = absurd (cc)
-
-pub marks-both : (v a b : Decomposed) → AreSides a b → KeepsEitherOf (held a) (held b) v.blocks → JoinsMarks a.blocks b.blocks v.blocks
-marks-both v a b s h = by a.blocks b.blocks s.first s.second h
-  where
-    by : (x y : Option Blocks) → IsSome x → IsSome y → KeepsEitherOf (held_of x) (held_of y) v.blocks → JoinsMarks x y v.blocks
-    by None y s t h = absurd (cc)
-    by (Some x) None s t h = absurd (cc)
-    by (Some x) (Some y) s t h = h
-
 -- ---- the three operations
 
 pub either-join : (a b : Octagon) → either_value Join a b ≡ join_value a b
@@ -142,22 +135,3 @@ narrow-second n v a b e f g = g ∙ ap (λ t. octagon_of t None) e ∙ narrow-no
 pub narrow-both : (v a b : Decomposed) → AreSides a b → octagon v ≡ octagon_of a.dims (Some (combined_matrix Narrowing (whole a.dims (held a)) (whole a.dims (held b)))) → octagon v ≡ narrow_value (octagon a) (octagon b)
 unfolding narrow_value narrow-of
 narrow-both v a b s e = e ∙ narrow-each a.dims b.dims a.blocks b.blocks s.dims s.first s.second
-
-pub narrows-first : (v a b : Decomposed) → a.blocks ≡ None → v.blocks ≡ None → NarrowsMarks a.blocks b.blocks v.blocks
-narrows-first v a b f g = subst (λ x. NarrowsMarks x b.blocks v.blocks) (sym f) g
-
-pub narrows-second : (v a b : Decomposed) → b.blocks ≡ None → v.blocks ≡ None → NarrowsMarks a.blocks b.blocks v.blocks
-narrows-second v a b f g = by a.blocks b.blocks f
-  where
-    by : (x y : Option Blocks) → y ≡ None → NarrowsMarks x y v.blocks
-    by None y e = g
-    by (Some x) None e = g
-    by (Some x) (Some y) e = absurd (cc)
-
-pub narrows-both : (v a b : Decomposed) → AreSides a b → KeepsEitherOf (held a) (held b) v.blocks → NarrowsMarks a.blocks b.blocks v.blocks
-narrows-both v a b s h = by a.blocks b.blocks s.first s.second h
-  where
-    by : (x y : Option Blocks) → IsSome x → IsSome y → KeepsEitherOf (held_of x) (held_of y) v.blocks → NarrowsMarks x y v.blocks
-    by None y s t h = absurd (cc)
-    by (Some x) None s t h = absurd (cc)
-    by (Some x) (Some y) s t h = h
