@@ -11,8 +11,8 @@ combined_over-requires-clause-others c =
     let a = c.args.a.now in
     let b = c.args.b.now in
     let sides : AreSides a b = record { dims = c.requires.dims; first = c.in-Some.ensures.some refl; second = c.in-Some-partition.ensures.some refl } in
-    let first : c.in-Some.p.now ≡ (held a).partition = if-held a.blocks (λ h. c.in-Some.p.now ≡ h.partition) sides.first c.in-Some.ensures.blocks in
-    let second : c.in-Some-partition.q.now ≡ (held b).partition = if-held b.blocks (λ h. c.in-Some-partition.q.now ≡ h.partition) sides.second c.in-Some-partition.ensures.blocks in
+    let first : c.in-Some.p.now ≡ (held a).partition = if-held _ (λ h. c.in-Some.p.now ≡ h.partition) sides.first c.in-Some.ensures.blocks in
+    let second : c.in-Some-partition.q.now ≡ (held b).partition = if-held _ (λ h. c.in-Some-partition.q.now ≡ h.partition) sides.second c.in-Some-partition.ensures.blocks in
     let meet = c.in_ok-meet-in-Some-partition.meet in
     over-meet c.args.op a.dims (held a) (held b) meet c.requires.loses c.known.ensures.small (first-side a b sides c.known.ensures) (second-side a b sides c.known-2.ensures) c.known-in-Some-partition.ensures.partition
     (subst (λ (t : List (List ℕ)). IsMeetOf t (held b).partition meet) first (subst (λ (t : List (List ℕ)). IsMeetOf c.in-Some.p.now t meet) second c.in_ok-meet-in-Some-partition.ensures))

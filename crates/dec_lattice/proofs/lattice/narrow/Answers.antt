@@ -13,8 +13,8 @@ combined_over-requires-clause-others c =
     let p = c.in-Some.p.now in
     let q = c.in-Some-partition.q.now in
     let sides : AreSides a b = record { dims = c.requires; first = c.in-Some.ensures.some refl; second = c.in-Some-partition.ensures.some refl } in
-    let first : p ≡ (held a).partition = if-held a.blocks (λ h. p ≡ h.partition) sides.first c.in-Some.ensures.blocks in
-    let second : q ≡ (held b).partition = if-held b.blocks (λ h. q ≡ h.partition) sides.second c.in-Some-partition.ensures.blocks in
+    let first : p ≡ (held a).partition = if-held _ (λ h. p ≡ h.partition) sides.first c.in-Some.ensures.blocks in
+    let second : q ≡ (held b).partition = if-held _ (λ h. q ≡ h.partition) sides.second c.in-Some-partition.ensures.blocks in
     let both = c.in_ok-both-in-Some-partition.both in
     let size = ap length second in
     over-coarser a.dims (held a) (held b) both (length q) (first-side a b sides c.known.ensures) (second-side a b sides c.known-2.ensures)
