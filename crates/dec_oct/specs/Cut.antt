@@ -3,7 +3,7 @@ use Rattle.std.specs.Prelude.{◌≡◌, ℕ, ◌<◌, ◌↔◌, nat_eq, List, 
 use Rattle.oct_def.specs.Bound.{Bound, least, plus, half}
 use Rattle.oct_def.specs.Table.{Matrix}
 use Rattle.oct_def.specs.Matrix.{opposite}
-use Rattle.block_partition.specs.Partition.{member, block, home, SameBlock, IsOrdered}
+use Rattle.block_partition.specs.Partition.{member, home, SameBlock, IsOrdered}
 use Rattle.block_partition.specs.Changes.{leaving}
 use Rattle.block_laws.specs.Assembly.{assembly_entry, assembly, IsParts}
 use Rattle.block_laws.specs.Components.{Joins, Linked, HasBound, IsComponents}
