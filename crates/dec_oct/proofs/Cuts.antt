@@ -1,15 +1,15 @@
 -- The cut of an assembly into its components, block after block.
-use Rattle.std.proofs.Common.{◌≡◌, ℕ, ◌+◌, ◌*◌, ◌/◌, ◌<◌, ◌≤◌, ◌⊎◌, inl, inr, List, [], length, get_or, refl, sym, ap, ◌∙◌, subst, arith}
+use Rattle.std.proofs.Common.{◌≡◌, ℕ, ◌+◌, ◌*◌, ◌<◌, ◌≤◌, ◌⊎◌, inl, inr, List, [], length, get_or, refl, sym, ap, ◌∙◌, subst, arith}
 use Rattle.std.specs.Prelude.{◌↔◌}
 use Rattle.std.proofs.lemmas.Bool.{cases_eq}
 use Rattle.std.proofs.lemmas.List.{get_or_default}
-use Rattle.oct_def.specs.Table.{Matrix, at}
+use Rattle.oct_def.specs.Table.{Matrix}
 use Rattle.oct_def.specs.Matrix.{IsSquare, IsEvenMatrix}
 use Rattle.oct_def.proofs.Tables.{square-table}
 use Rattle.block_partition.specs.Partition.{member, place, IsIn, block, home, SameBlock, IsBlock, IsPartition, IsOrdered}
 use Rattle.block_partition.specs.Changes.{leaving, label_of, IsSplitPair, IsSplitBy}
 use Rattle.block_partition.proofs.Places.{home_in}
-use Rattle.block_partition.proofs.Unique.{IsRising, IsWithin, rising-unique}
+use Rattle.block_partition.proofs.Unique.{IsRising, rising-unique}
 use Rattle.block_laws.specs.Assembly.{matrix, restrict_entry, restrict, assembly, IsParts}
 use Rattle.block_laws.specs.Components.{Linked, IsComponents, IsZeroDiagonal}
 use Rattle.block_laws.proofs.Restrict.{length-restrict}
@@ -184,9 +184,6 @@ pub walk-of : (n : ℕ) (bs : List (List ℕ)) (ms : List Matrix) (b : ℕ) (lab
 walk-of n bs ms b labels x y ps p e f h =
     let g : y ≡ matrix ms b = e ∙ f ∙ get_or_default ms b x [] (let z = ps.count in omega arith) in
     record { parts = ps; within = p; told = subst (λ t. IsLinkLabels (length (block bs b)) t labels) g (h (length (block bs b)) (ap length g ∙ ps.size b p)) }
-
-pub cut-first : (bs : List (List ℕ)) (b : ℕ) (vs : List ℕ) (v : ℕ) → 0 < length (block bs b) → vs ≡ block bs b → v ≡ get_or vs 0 v → v ≡ member (block bs b) 0
-cut-first bs b vs v h e f = f ∙ ap (λ t. get_or t 0 v) e ∙ get_or_default (block bs b) 0 v 0 h
 
 pub cut-last : (n : ℕ) (bs cs : List (List ℕ)) (m : Matrix) (k : ℕ) → k ≡ length bs → IsCutUpTo n bs m k cs → IsCutUpTo n bs m (length bs) cs
 cut-last n bs cs m k e h = subst (λ t. IsCutUpTo n bs m t cs) e h
