@@ -7,7 +7,7 @@ use Rattle.oct_def.specs.Table.{Matrix}
 use Rattle.oct_def.specs.Matrix.{IsSquare, IsEvenMatrix}
 use Rattle.oct_def.proofs.Tables.{square-table}
 use Rattle.block_partition.specs.Partition.{member, place, IsIn, block, home, SameBlock, IsBlock, IsPartition, IsOrdered}
-use Rattle.block_partition.specs.Changes.{leaving, label_of, IsSplitPair, IsSplitBy}
+use Rattle.block_partition.specs.Changes.{label_of, IsSplitPair, IsSplitBy}
 use Rattle.block_partition.proofs.Places.{home_in}
 use Rattle.block_partition.proofs.Unique.{IsRising, rising-unique}
 use Rattle.block_laws.specs.Assembly.{matrix, restrict_entry, restrict, assembly, IsParts}
@@ -16,7 +16,7 @@ use Rattle.block_laws.proofs.Restrict.{length-restrict}
 use Rattle.block_laws.proofs.Assembly.{length-assembly, assembly-is, separated-assembly}
 use Rattle.block_laws.proofs.Components.{linked-same}
 use Rattle.block_laws.proofs.Lattice.{separated-components, links-in_block}
-use Rattle.dec_oct.specs.Cut.{SameLabel, IsLinkLabels, IsCut, IsCutUpTo}
+use Rattle.dec_oct.specs.Cut.{SameLabel, HaveOneLabel, IsLinkLabels, IsCut, IsCutUpTo}
 use Rattle.dec_oct.proofs.Bounded.{placed_below}
 
 -- what the walk of block b tells of two of its variables
@@ -45,8 +45,7 @@ cut-start n bs cs m e = subst (IsCutUpTo n bs m 0) (sym e) (record { exact = λ 
 
 -- a block that doesn't split
 pub cut-whole : (n : ℕ) (bs : List (List ℕ)) (ms : List Matrix) (b : ℕ) (labels : List ℕ) (cs ds : List (List ℕ)) → IsWalkOf n bs ms b labels
-    → ((i j : ℕ) → i < length labels → j < length labels → (member labels i ≡ member labels j) × (member labels i ≡ leaving → ⊥))
-    → IsCutUpTo n bs (assembly n bs ms) b cs → ds ≡ cs → IsCutUpTo n bs (assembly n bs ms) (b + 1) ds
+    → HaveOneLabel labels → IsCutUpTo n bs (assembly n bs ms) b cs → ds ≡ cs → IsCutUpTo n bs (assembly n bs ms) (b + 1) ds
 cut-whole n bs ms b labels cs ds k whole h e = subst (IsCutUpTo n bs (assembly n bs ms) (b + 1)) (sym e) (record {
   exact = λ u w p q. (λ s. let r = (h.exact u w p q).0 s in (r.0, λ z. by u w r.0 r.1 z (cases_eq (home bs u) b)), λ s. (h.exact u w p q).1 (s.0, λ z. s.1 (omega arith)));
 })

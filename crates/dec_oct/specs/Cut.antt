@@ -45,6 +45,10 @@ pub record IsChainLabels (n : ℕ) (m : Matrix) (labels : List ℕ) : Type 0 whe
 abbrev pub SameLabel : List ℕ → ℕ → ℕ → Type 0
 SameLabel labels u w = (member labels u ≡ member labels w) × (member labels u ≡ leaving → ⊥)
 
+-- all members have one label, and none leaves
+abbrev pub HaveOneLabel : List ℕ → Type 0
+HaveOneLabel labels = (i j : ℕ) → i < length labels → j < length labels → SameLabel labels i j
+
 -- the labels of the components of a block's matrix
 pub record IsLinkLabels (n : ℕ) (m : Matrix) (labels : List ℕ) : Type 0 where
   pub size : length labels ≡ n

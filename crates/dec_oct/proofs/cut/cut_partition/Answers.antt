@@ -1,7 +1,8 @@
-use Rattle.std.proofs.Common.{◌≡◌, ℕ, ◌<◌, length, sym, ap, subst, ◌∙◌, arith}
+use Rattle.std.proofs.Common.{length, sym, ap, subst, ◌∙◌, arith}
 use Rattle.block_partition.specs.Partition.{member, home}
-use Rattle.block_partition.specs.Changes.{leaving, IsSplitBy}
+use Rattle.block_partition.specs.Changes.{IsSplitBy}
 use Rattle.block_laws.specs.Assembly.{assembly}
+use Rattle.dec_oct.specs.Cut.{HaveOneLabel}
 use Rattle.dec_oct.proofs.Cuts.{IsWhole, cut-start, cut-whole, cut-block, cut-split, cut-last, walk-of}
 use Rattle.dec_oct.proofs.cut.cut_partition.Goals.{then-not-is_whole+in_ok-split_at, else-not-is_whole}
 use Rattle.dec_oct.proofs.cut.cut_partition.Goals as goal
@@ -45,7 +46,7 @@ loop-b-preserved c =
           (subst (IsSplitBy c.loop-b.cut (home c.loop-b.cut v) labels) (sym w.cut-is) (subst (λ t. IsSplitBy c.loop-b.cut (home c.loop-b.cut v) t w.split_at.new.cut) w.deref-then-not-is_whole.ensures.value w.in_ok-split_at.ensures))
       | else-not-is_whole w ↦
           cut-whole n bs ms b labels c.loop-b.cut _ walk
-          (subst (λ t. (i j : ℕ) → i < length t → j < length t → (member t i ≡ member t j) × (member t i ≡ leaving → ⊥)) c.deref.ensures.value (c.is_whole.ensures w.if-not-is_whole.false))
+          (subst HaveOneLabel c.deref.ensures.value (c.is_whole.ensures.yes w.if-not-is_whole.false))
           c.loop-b.invariant w.cut-is
     ]
 
