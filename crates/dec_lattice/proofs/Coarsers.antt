@@ -1,9 +1,8 @@
 -- The finest partition that is coarser than two, block by block of the second.
 use Rattle.std.proofs.Common.{◌≡◌, ℕ, ◌+◌, ◌<◌, ◌≤◌, ◌⊎◌, inl, inr, List, length, refl, sym, ap, ◌∙◌, subst, arith}
-use Rattle.std.specs.Prelude.{◌↔◌}
 use Rattle.std.proofs.lemmas.Bool.{cases_eq}
 use Rattle.block_partition.specs.Partition.{member, place, IsIn, block, home, SameBlock, IsPartition}
-use Rattle.block_partition.specs.Changes.{AreVariables, IsNear, IsMergedBy}
+use Rattle.block_partition.specs.Changes.{IsNear, IsMergedBy}
 use Rattle.block_partition.proofs.Places.{member-place, home_in}
 use Rattle.block_laws.proofs.Components.{same_block-sym}
 use Rattle.dec_oct.proofs.Bounded.{merged-partition}

@@ -4,3 +4,4 @@ pub mod Overs
 pub mod Coarsers
 pub mod Marked
 pub mod Values
+pub mod Single

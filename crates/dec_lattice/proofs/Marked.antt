@@ -1,30 +1,28 @@
 -- The marks of what is made of two values.
-use Rattle.std.proofs.Common.{◌≡◌, ℕ, ◌+◌, ◌*◌, ◌<◌, ◌≤◌, ◌⊎◌, inl, inr, Bool, true, false, List, [], length, Option, Some, None, refl, sym, ap, ◌∙◌, subst, arith}
-use Rattle.std.specs.Prelude.{◌↔◌, IsSome, IfSome, pos}
-use Rattle.oct_def.specs.Bound.{InRange, IsEven}
+use Rattle.std.proofs.Common.{◌≡◌, ℕ, ◌*◌, ◌<◌, ◌⊎◌, inl, inr, Bool, true, List, length, Some, refl, sym, ap, ◌∙◌, subst, arith}
+use Rattle.std.specs.Prelude.{pos}
+use Rattle.oct_def.specs.Bound.{IsEven}
 use Rattle.oct_def.specs.Table.{Matrix, at}
 use Rattle.oct_def.specs.Matrix.{opposite, IsEvenMatrix}
 use Rattle.oct_def.specs.Tight.{tight}
-use Rattle.block_partition.specs.Partition.{member, IsIn, block, home, SameBlock, IsBlock, IsPartition}
+use Rattle.block_partition.specs.Partition.{member, IsIn, block, home, SameBlock, IsPartition}
 use Rattle.block_partition.proofs.Places.{in-member, home_in, home-in}
 use Rattle.block_partition.proofs.Unique.{IsRising, IsWithin, rising-unique}
 use Rattle.block_laws.specs.Assembly.{outer, restrict, matrix, assembly, IsParts}
-use Rattle.block_laws.specs.Components.{Linked, IsComponents}
+use Rattle.block_laws.specs.Components.{IsComponents}
 use Rattle.block_laws.proofs.Places.{outer_below}
-use Rattle.block_laws.proofs.Restrict.{length-restrict}
 use Rattle.block_laws.proofs.Assembly.{length-assembly, restrict-assembly}
 use Rattle.block_laws.proofs.Components.{linked-same}
 use Rattle.block_laws.proofs.Lattice.{at-block}
-use Rattle.dec_oct.specs.Value.{Blocks, blocks_of, whole, Decomposed, marked, IsSettled, IsDecomposition}
-use Rattle.dec_oct.specs.Cost.{IsMarkedBlock}
-use Rattle.dec_oct.specs.Given.{IsGiven, IsEvenGiven, KeepsMarks, KeepsMarksOf}
+use Rattle.dec_oct.specs.Value.{Blocks, blocks_of, whole, marked, IsSettled, IsDecomposition}
+use Rattle.dec_oct.specs.Given.{IsEvenGiven, KeepsMarks}
 use Rattle.dec_oct.proofs.Flags.{IsFlagged, marked-again}
 use Rattle.dec_oct.proofs.Results.{in_range-blocks}
 use Rattle.dec_lattice.specs.declared.operation.Operation.{Operation}
 use Rattle.dec_lattice.specs.Operation.{combined_matrix}
-use Rattle.dec_lattice.specs.Over.{held_of, IsOver}
-use Rattle.dec_lattice.specs.Marks.{IsEither, TellsEither, KeepsEither, KeepsEitherOf}
-use Rattle.dec_lattice.proofs.Parts.{length-combined, square-combined, combined-self, restrict-combined, combined-parts, even-combined, even-part}
+use Rattle.dec_lattice.specs.Over.{IsOver}
+use Rattle.dec_lattice.specs.Marks.{IsEither, TellsEither, KeepsEither}
+use Rattle.dec_lattice.proofs.Parts.{length-combined, combined-self, restrict-combined, combined-parts, even-combined, even-part}
 
 -- ---- which parts are marked blocks of either side
 

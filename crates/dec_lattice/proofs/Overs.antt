@@ -1,16 +1,15 @@
 -- Partitions over which values are combined.
 use Rattle.std.proofs.Common.{◌≡◌, ℕ, ◌*◌, ◌/◌, ◌<◌, ◌≤◌, ◌⊎◌, inl, inr, Bool, true, false, cond, List, length, Some, None, refl, sym, ap, ◌∙◌, subst, arith}
-use Rattle.std.specs.Prelude.{◌↔◌, pos}
+use Rattle.std.specs.Prelude.{pos}
 use Rattle.std.proofs.lemmas.Bool.{cases_eq, both_ways}
 use Rattle.oct_def.specs.Bound.{Bound, at_most}
 use Rattle.oct_def.specs.Table.{Matrix, at}
-use Rattle.oct_def.specs.Matrix.{IsEvenMatrix}
-use Rattle.oct_def.specs.Octagon.{top_entry, narrow_bound}
+use Rattle.oct_def.specs.Octagon.{top_entry}
 use Rattle.oct_def.proofs.Tables.{at-table}
-use Rattle.block_partition.specs.Partition.{member, block, home, IsPartition, SameBlock}
+use Rattle.block_partition.specs.Partition.{member, block, IsPartition, SameBlock}
 use Rattle.block_partition.specs.Changes.{IsMeetOf}
-use Rattle.block_laws.specs.Assembly.{is_joint, assembly, IsSeparated}
-use Rattle.block_laws.specs.Components.{Joins, Linked, One, More, IsComponents, IsZeroDiagonal}
+use Rattle.block_laws.specs.Assembly.{is_joint, IsSeparated}
+use Rattle.block_laws.specs.Components.{Linked, One, More, IsZeroDiagonal}
 use Rattle.block_laws.proofs.Assembly.{joint-from, joint-gives, top_entry-off, top_entry-on, length-assembly, separated-assembly}
 use Rattle.block_laws.proofs.Lattice.{separated-narrow}
 use Rattle.dec_oct.specs.Value.{Blocks, whole, IsDecomposition}

@@ -1,11 +1,11 @@
 -- Two matrices combined, and their parts.
-use Rattle.std.proofs.Common.{◌≡◌, ℕ, ◌*◌, ◌<◌, ◌⊎◌, inl, inr, Bool, true, false, cond, List, length, Some, None, refl, sym, ap, ◌∙◌, subst, arith}
-use Rattle.std.specs.Prelude.{pos, int_le}
+use Rattle.std.proofs.Common.{◌≡◌, ℕ, ◌*◌, ◌<◌, ◌⊎◌, inl, inr, Bool, true, cond, List, length, Some, None, refl, sym, ap, ◌∙◌, subst, arith}
+use Rattle.std.specs.Prelude.{int_le}
 use Rattle.std.proofs.lemmas.Int.{ints}
-use Rattle.oct_def.specs.Bound.{Bound, greatest, at_most, IsEven}
+use Rattle.oct_def.specs.Bound.{Bound, greatest, IsEven}
 use Rattle.oct_def.specs.Table.{Matrix, at}
 use Rattle.oct_def.specs.Matrix.{opposite, IsSquare, IsEvenMatrix}
-use Rattle.oct_def.specs.Octagon.{join_entry, join_matrix, join_value, widen_bound, widen_entry, widen_matrix, widen_value, narrow_entry, narrow_matrix, narrow_value}
+use Rattle.oct_def.specs.Octagon.{join_entry, join_matrix, join_value, widen_entry, widen_matrix, widen_value, narrow_entry, narrow_matrix, narrow_value}
 use Rattle.oct_def.proofs.Bounds.{greatest_is}
 use Rattle.oct_def.proofs.Tables.{length-table, square-table, is-table}
 use Rattle.oct_def.proofs.Lattice.{octagon-join, octagon-widen, octagon-narrow}

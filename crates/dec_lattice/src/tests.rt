@@ -3,9 +3,9 @@ ghost use Rattle.std.specs.Prelude.{◌≡◌, ℕ, ◌*◌, ◌<◌, length, tr
 ghost use Rattle.oct_def.specs.Bound.{InRange, IsEven, IsWord};
 ghost use Rattle.oct_def.specs.Table.{at};
 ghost use Rattle.oct_def.specs.Matrix.{opposite as opposite_of};
-ghost use Rattle.block_partition.specs.Partition.{member};
+ghost use Rattle.block_partition.specs.Partition.{member, block};
 
-use crate::{join, narrow, widen};
+use crate::{NoMemory, join, narrow, widen};
 use block_partition::Partition;
 use dec_oct::{DecOct, Parts};
 use half_matrix::{HalfBuf, HalfMatrix};
@@ -35,20 +35,31 @@ fn word_from(seed: u64) -> i64
     2 * bound
 }
 
-/// Each entry off the diagonal becomes a bound from the seed.
-fn fill(m: &mut HalfBuf, seed: u64) -> u64
+/// An entry off the diagonal becomes a bound from the seed.
+fn constrain(m: &mut HalfBuf, i: u32, j: u32, seed: u64)
+    requires row { i < length m.old }
+    requires column { j < length m.old }
+    requires in_range { (i j : ℕ) → InRange (at m.old i j) }
+    ensures in_range { (i j : ℕ) → InRange (at m.new i j) }
+    ensures rows { length m.new ≡ length m.old }
+{
+    if i != j {
+        m.set(i, j, word_from(seed));
+    }
+}
+
+/// Each entry off the diagonal becomes a bound from the seed. The next seed is the result.
+fn fill(m: &mut HalfBuf, first: u64) -> u64
     requires in_range { (i j : ℕ) → InRange (at m.old i j) }
     ensures in_range { (i j : ℕ) → InRange (at m.new i j) }
     ensures rows { length m.new ≡ length m.old }
 {
     let size = 2 * m.vars();
-    let mut seed = seed;
+    let mut seed = first;
     'rows: for i in 0..size {
         'columns: for j in 0..size {
-            if i != j {
-                seed = next(seed);
-                m.set(i, j, word_from(seed));
-            }
+            seed = next(seed);
+            constrain(m, i, j, seed);
         }
     }
     seed
@@ -88,6 +99,27 @@ fn are_below(members: &[u32], dims: u32) -> bool
     true
 }
 
+/// The value of one block of all variables.
+fn value_of(alloc: Global, partition: Partition, matrix: HalfMatrix) -> Result<DecOct, NoMemory>
+    requires one { length partition ≡ 1 }
+    requires all { length (block partition 0) ≡ 5 }
+    requires below { (i : ℕ) → i < length (block partition 0) → member (block partition 0) i < 5 }
+    requires rows { length matrix ≡ 10 }
+    requires in_range { (i j : ℕ) → InRange (at matrix i j) }
+    requires diagonal { (i : ℕ) → i < length matrix → at matrix i i ≡ Some (pos 0) }
+    requires even { (i : ℕ) → i < length matrix → IsEven (at matrix i (opposite_of i)) }
+{
+    partition.known();
+    let parts = Parts {
+        dims: DIMS,
+        partition,
+        matrices: vec![in alloc; matrix]?,
+        settled: vec![in alloc; false]?,
+    };
+    let v = DecOct::from_parts(alloc, parts)?;
+    Ok(v)
+}
+
 /// A value from a seed, and the next seed; one in eight is Bottom.
 fn value_from(rt: &impl Abort, alloc: Global, seed: u64) -> Result<(DecOct, u64), Fail> {
     if seed >> 40 & 7 == 0 {
@@ -102,18 +134,13 @@ fn value_from(rt: &impl Abort, alloc: Global, seed: u64) -> Result<(DecOct, u64)
     assert_eq!(rt; partition.len(), 1);
     assert_eq!(rt; partition.block(0).len(), 5);
     assert!(rt; are_below(partition.block(0), DIMS));
-    let parts = Parts {
-        dims: DIMS,
-        partition,
-        matrices: vec![in alloc; matrix]?,
-        settled: vec![in alloc; false]?,
-    };
-    let v = DecOct::from_parts(alloc, parts)?;
+    let v = value_of(alloc, partition, matrix)?;
     Ok((v, seed))
 }
 
 /// The words of a value, row after row; none for Bottom.
 fn words_of(alloc: Global, v: &DecOct) -> Result<Vec<i64>, Fail> {
+    v.known();
     let mut words = Vec::new(alloc);
     match v.partition() {
         None => {}

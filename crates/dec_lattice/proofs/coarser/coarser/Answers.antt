@@ -1,4 +1,4 @@
-use Rattle.std.proofs.Common.{◌≡◌, ◌+◌, subst, sym, arith}
+use Rattle.std.proofs.Common.{◌+◌, subst, sym, arith}
 use Rattle.block_partition.specs.Changes.{IsMergedBy}
 use Rattle.dec_lattice.specs.Coarser.{IsCoarser}
 use Rattle.dec_lattice.proofs.Coarsers.{coarser-skip, coarser-merge}

@@ -1,4 +1,3 @@
-use Rattle.std.proofs.Common.{◌≡◌}
 use Rattle.dec_lattice.specs.Coarser.{IsCoarser}
 use Rattle.dec_lattice.proofs.coarser.coarser.Given as goal
 

@@ -1,4 +1,4 @@
-use Rattle.std.proofs.Common.{◌≡◌, List, length, refl, ap, sym, subst, arith}
+use Rattle.std.proofs.Common.{◌≡◌, List, length, refl, ap, subst, arith}
 use Rattle.std.specs.Prelude.{ℕ}
 use Rattle.dec_lattice.specs.Over.{held, AreSides}
 use Rattle.dec_lattice.specs.Coarser.{IsCoarser}

@@ -1,5 +1,4 @@
-use Rattle.std.proofs.Common.{◌≡◌, length, sym, ap, ◌∙◌}
-use Rattle.block_laws.specs.Assembly.{restrict}
+use Rattle.std.proofs.Common.{length, sym, ap, ◌∙◌}
 use Rattle.block_laws.proofs.Restrict.{length-restrict}
 use Rattle.dec_oct.specs.Value.{whole}
 use Rattle.dec_lattice.specs.Over.{held}
