@@ -181,7 +181,7 @@ keeps-either op n a b r ds ms marks h dr e kept = record {
     known c p at m =
         let d : block ds at.place ≡ block r.partition c = at.members in
         let words : matrix ms at.place ≡ matrix r.matrices c =
-            part-over op n a b ds ms marks h at.place at.within ∙ ap (λ t. restrict t x) d ∙ ap (restrict (block r.partition c)) (sym e) ∙ restrict-assembly n r.partition r.matrices c dr.parts p in
+        part-over op n a b ds ms marks h at.place at.within ∙ ap (λ t. restrict t x) d ∙ ap (restrict (block r.partition c)) (sym e) ∙ restrict-assembly n r.partition r.matrices c dr.parts p in
         kept.kept at.place c at.within p d ((h.told.exact at.place at.within).1 (subst (λ t. IsEither a b t (matrix ms at.place)) (sym d) (subst (IsEither a b (block r.partition c)) (sym words) m)))
 
     one : (c : ℕ) → c < length r.partition → IsEither a b (block r.partition c) (matrix r.matrices c) → marked r.marks c ≡ true

@@ -59,12 +59,15 @@ restrict-combined op n vs a b e bl = restrict-each (combined op) n vs a b e bl
 -- the combined parts over blocks that the combined matrix keeps apart make it
 pub combined-parts : (op : Operation) (n : ℕ) (ds : List (List ℕ)) (a b : Matrix) (ms : List Matrix) → length a ≡ 2 * n → IsPartition n ds → IsSeparated n ds (combined_matrix op a b) → length ms ≡ length ds
     → ((c : ℕ) → c < length ds → matrix ms c ≡ combined_matrix op (restrict (block ds c) a) (restrict (block ds c) b)) → IsParts n ds ms × (assembly n ds ms ≡ combined_matrix op a b)
-combined-parts op n ds a b ms e pt sep size each = (record {
-  partition = pt;
-  count = size;
-  square = λ c p. subst IsSquare (sym (each c p)) (square-combined op (restrict (block ds c) a) (restrict (block ds c) b));
-  size = λ c p. ap length (each c p) ∙ length-combined op (restrict (block ds c) a) (restrict (block ds c) b) ∙ length-restrict (block ds c) a;
-}, sym (assembly-is n ds (combined_matrix op a b) ms pt (square-combined op a b) (length-combined op a b ∙ e) sep (λ c p. each c p ∙ sym (restrict-combined op n (block ds c) a b e (pt.blocks c p)))))
+combined-parts op n ds a b ms e pt sep size each = (
+  record {
+    partition = pt;
+    count = size;
+    square = λ c p. subst IsSquare (sym (each c p)) (square-combined op (restrict (block ds c) a) (restrict (block ds c) b));
+    size = λ c p. ap length (each c p) ∙ length-combined op (restrict (block ds c) a) (restrict (block ds c) b) ∙ length-restrict (block ds c) a;
+  },
+  sym (assembly-is n ds (combined_matrix op a b) ms pt (square-combined op a b) (length-combined op a b ∙ e) sep (λ c p. each c p ∙ sym (restrict-combined op n (block ds c) a b e (pt.blocks c p)))),
+)
 
 -- ---- values
 

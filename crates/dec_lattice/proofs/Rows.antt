@@ -21,7 +21,7 @@ unfolding combined_entry
 row-combined op n i m x now old w row cut e f hi s lo lw held other ec each = row_more (combined_entry op m x) n i m now w e hi s (lw ∙ lo) (λ c p own.
     let first : bound_of (get_or old c (pos 0)) ≡ at m i c = held c own ∙ s.kept i c (omega arith) (omega arith) p own in
     let second : bound_of (get_or cut c (pos 0)) ≡ at x i c =
-        ap (λ t. bound_of (get_or t c (pos 0))) ec ∙ ap bound_of (get_or-take (length old) row c (pos 0) (omega arith)) ∙ other.words c (omega arith) in
+    ap (λ t. bound_of (get_or t c (pos 0))) ec ∙ ap bound_of (get_or-take (length old) row c (pos 0) (omega arith)) ∙ other.words c (omega arith) in
     each c (omega arith) ∙ ap (λ t. combined op t (bound_of (get_or cut c (pos 0)))) first ∙ ap (combined op (at m i c)) second)
 
 -- all rows

@@ -50,12 +50,7 @@ fn combined_in_both(
 
 /// The join: the greater entry at each place, and the other value where one is Bottom. It closes nothing, and takes time
 /// quadratic in the size of each intersection of blocks; a Bottom takes none.
-pub fn join(
-    alloc: Global,
-    a: &DecOct,
-    b: &DecOct,
-    count: &mut RowCount,
-) -> Result<DecOct, NoMemory>
+pub fn join(alloc: Global, a: &DecOct, b: &DecOct, count: &mut RowCount) -> Result<DecOct, NoMemory>
     requires { a.now.dims ≡ b.now.dims }
     ensures value { IfOk result (λ v. octagon v ≡ join_value (octagon a.now) (octagon b.now)) }
     ensures marks { IfOk result (λ v. JoinsMarks a.now.blocks b.now.blocks v.blocks) }

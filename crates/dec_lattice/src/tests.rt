@@ -20,7 +20,8 @@ const DIMS: u32 = 5;
 
 /// The next number after a seed.
 fn next(seed: u64) -> u64 {
-    seed.wrapping_mul(6364136223846793005).wrapping_add(1442695040888963407)
+    seed.wrapping_mul(6364136223846793005)
+        .wrapping_add(1442695040888963407)
 }
 
 /// A bound from a number: mostly none, else small and even.
@@ -179,13 +180,7 @@ fn expect_words(rt: &impl Abort, call: Call, a: &[i64], b: &[i64], made: &[i64],
     if bottoms {
         let expected = match call {
             Call::Narrow => &[],
-            _ => {
-                if a.len() == 0 {
-                    b
-                } else {
-                    a
-                }
-            }
+            _ => { if a.len() == 0 { b } else { a } }
         };
         assert!(rt; made == expected, "{call:?} with Bottom from {seed}");
         return;
@@ -193,7 +188,11 @@ fn expect_words(rt: &impl Abort, call: Call, a: &[i64], b: &[i64], made: &[i64],
     assert_eq!(rt; a.len(), b.len());
     assert_eq!(rt; a.len(), made.len());
     for k in 0..a.len() {
-        assert_eq!(rt; made[k], expected_word(call, a[k], b[k]), "{call:?} from {seed} at {k}");
+        assert_eq!(rt;
+            made[k],
+            expected_word(call, a[k], b[k]),
+            "{call:?} from {seed} at {k}"
+        );
     }
 }
 
@@ -228,7 +227,10 @@ fn expect_marks(rt: &impl Abort, v: &DecOct, call: Call, seed: u64) {
         None => {}
         Some(p) => {
             for b in 0..p.len() {
-                assert!(rt; v.settled(b), "{call:?} of equal values from {seed}, block {b}");
+                assert!(rt;
+                    v.settled(b),
+                    "{call:?} of equal values from {seed}, block {b}"
+                );
             }
         }
     }

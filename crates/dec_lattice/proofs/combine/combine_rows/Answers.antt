@@ -9,7 +9,7 @@ pub loop-i-preserved : goal.loop-i-preserved
 loop-i-preserved c =
     let n = c.vars-size.result in (
       row-combined c.args.op n c.loop-i.i c.args.dst.now c.args.src.now c.loop-i.dst c.row_mut-words.result.now c.combine_row.new.dst c.fill_row.new.buf _ (omega arith) (omega arith) (omega arith)
-      c.loop-i.invariant.0 c.row_mut-words.ensures.length c.combine_row.ensures.length c.row_mut-words.ensures.words c.fill_row.ensures refl c.combine_row.ensures.combined,
+          c.loop-i.invariant.0 c.row_mut-words.ensures.length c.combine_row.ensures.length c.row_mut-words.ensures.words c.fill_row.ensures refl c.combine_row.ensures.combined,
       c.fill_row.ensures.size,
     )
 
