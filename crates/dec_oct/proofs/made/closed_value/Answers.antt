@@ -83,4 +83,4 @@ returns-clause-value c =
     let bound : new ≤ old + unmarked_cost made.matrices.items known = subst (λ x. new ≤ old + unmarked_cost x known) c.deref-4.ensures.value
     (subst (λ x. new ≤ old + unmarked_cost c.deref-4.result.now x) c.deref-5.ensures.value c.second_marks.ensures.count) in
     subst (λ o. IsClosedValue c.args.dims a o old new) (sym (ap (λ d. d.blocks) c.in_ok-v.ensures))
-    (closed-is c.args.dims a _ _ _ known again old new r.0 c.in_ok-made.ensures told t c.second_marks.ensures.rises bound)
+    (closed-is c.args.dims a _ _ _ known again old new r.0 c.in_ok-made.ensures told t bound)
