@@ -1,22 +1,22 @@
 -- The cut of an assembly into its components, block after block.
-use Rattle.std.proofs.Common.{◌≡◌, ℕ, ◌+◌, ◌*◌, ◌/◌, ◌<◌, ◌≤◌, ◌⊎◌, inl, inr, List, [], length, get_or, refl, sym, ap, ◌∙◌, subst, arith}
+use Rattle.std.proofs.Common.{◌≡◌, ℕ, ◌+◌, ◌*◌, ◌<◌, ◌≤◌, ◌⊎◌, inl, inr, List, [], length, get_or, refl, sym, ap, ◌∙◌, subst, arith}
 use Rattle.std.specs.Prelude.{◌↔◌}
 use Rattle.std.proofs.lemmas.Bool.{cases_eq}
 use Rattle.std.proofs.lemmas.List.{get_or_default}
-use Rattle.oct_def.specs.Table.{Matrix, at}
+use Rattle.oct_def.specs.Table.{Matrix}
 use Rattle.oct_def.specs.Matrix.{IsSquare, IsEvenMatrix}
 use Rattle.oct_def.proofs.Tables.{square-table}
 use Rattle.block_partition.specs.Partition.{member, place, IsIn, block, home, SameBlock, IsBlock, IsPartition, IsOrdered}
-use Rattle.block_partition.specs.Changes.{leaving, label_of, IsSplitPair, IsSplitBy}
+use Rattle.block_partition.specs.Changes.{label_of, IsSplitPair, IsSplitBy}
 use Rattle.block_partition.proofs.Places.{home_in}
-use Rattle.block_partition.proofs.Unique.{IsRising, IsWithin, rising-unique}
+use Rattle.block_partition.proofs.Unique.{IsRising, rising-unique}
 use Rattle.block_laws.specs.Assembly.{matrix, restrict_entry, restrict, assembly, IsParts}
 use Rattle.block_laws.specs.Components.{Linked, IsComponents, IsZeroDiagonal}
 use Rattle.block_laws.proofs.Restrict.{length-restrict}
 use Rattle.block_laws.proofs.Assembly.{length-assembly, assembly-is, separated-assembly}
 use Rattle.block_laws.proofs.Components.{linked-same}
 use Rattle.block_laws.proofs.Lattice.{separated-components, links-in_block}
-use Rattle.dec_oct.specs.Cut.{SameLabel, IsLinkLabels, IsCut, IsCutUpTo}
+use Rattle.dec_oct.specs.Cut.{SameLabel, HaveOneLabel, IsLinkLabels, IsCut, IsCutUpTo}
 use Rattle.dec_oct.proofs.Bounded.{placed_below}
 
 -- what the walk of block b tells of two of its variables
@@ -45,8 +45,7 @@ cut-start n bs cs m e = subst (IsCutUpTo n bs m 0) (sym e) (record { exact = λ 
 
 -- a block that doesn't split
 pub cut-whole : (n : ℕ) (bs : List (List ℕ)) (ms : List Matrix) (b : ℕ) (labels : List ℕ) (cs ds : List (List ℕ)) → IsWalkOf n bs ms b labels
-    → ((i j : ℕ) → i < length labels → j < length labels → (member labels i ≡ member labels j) × (member labels i ≡ leaving → ⊥))
-    → IsCutUpTo n bs (assembly n bs ms) b cs → ds ≡ cs → IsCutUpTo n bs (assembly n bs ms) (b + 1) ds
+    → HaveOneLabel labels → IsCutUpTo n bs (assembly n bs ms) b cs → ds ≡ cs → IsCutUpTo n bs (assembly n bs ms) (b + 1) ds
 cut-whole n bs ms b labels cs ds k whole h e = subst (IsCutUpTo n bs (assembly n bs ms) (b + 1)) (sym e) (record {
   exact = λ u w p q. (λ s. let r = (h.exact u w p q).0 s in (r.0, λ z. by u w r.0 r.1 z (cases_eq (home bs u) b)), λ s. (h.exact u w p q).1 (s.0, λ z. s.1 (omega arith)));
 })
@@ -184,9 +183,6 @@ pub walk-of : (n : ℕ) (bs : List (List ℕ)) (ms : List Matrix) (b : ℕ) (lab
 walk-of n bs ms b labels x y ps p e f h =
     let g : y ≡ matrix ms b = e ∙ f ∙ get_or_default ms b x [] (let z = ps.count in omega arith) in
     record { parts = ps; within = p; told = subst (λ t. IsLinkLabels (length (block bs b)) t labels) g (h (length (block bs b)) (ap length g ∙ ps.size b p)) }
-
-pub cut-first : (bs : List (List ℕ)) (b : ℕ) (vs : List ℕ) (v : ℕ) → 0 < length (block bs b) → vs ≡ block bs b → v ≡ get_or vs 0 v → v ≡ member (block bs b) 0
-cut-first bs b vs v h e f = f ∙ ap (λ t. get_or t 0 v) e ∙ get_or_default (block bs b) 0 v 0 h
 
 pub cut-last : (n : ℕ) (bs cs : List (List ℕ)) (m : Matrix) (k : ℕ) → k ≡ length bs → IsCutUpTo n bs m k cs → IsCutUpTo n bs m (length bs) cs
 cut-last n bs cs m k e h = subst (λ t. IsCutUpTo n bs m t cs) e h

@@ -1,5 +1,5 @@
 -- Half matrices made entry by entry.
-use Rattle.std.proofs.Common.{◌≡◌, ℕ, ◌+◌, ◌*◌, ◌/◌, ◌<◌, ◌≤◌, ◌⊎◌, inl, inr, Bool, true, false, cond, List, length, refl, sym, ap, ◌∙◌, subst, arith}
+use Rattle.std.proofs.Common.{◌≡◌, ℕ, ◌+◌, ◌*◌, ◌<◌, ◌≤◌, ◌⊎◌, inl, inr, true, false, List, length, refl, sym, ap, ◌∙◌, subst, arith}
 use Rattle.std.specs.Prelude.{ℤ}
 use Rattle.std.proofs.lemmas.Bool.{cases_Bool, cases_eq, cond-true, cond-false}
 use Rattle.oct_def.specs.Bound.{Bound, bound_of}
@@ -17,9 +17,6 @@ use Rattle.block_laws.proofs.Places.{outer_below, outer-opposite}
 pub record Stored (asked : ℕ → ℕ → ℤ → Type 0) (m : Matrix) (i j : ℕ) : Type 0 where
   pub rows : (r c : ℕ) → r < i → r < length m → c < opposite r + 1 → (w : ℤ) × asked r c w × (bound_of w ≡ at m r c)
   pub row : (c : ℕ) → c < j → i < length m → c < opposite i + 1 → (w : ℤ) × asked i c w × (bound_of w ≡ at m i c)
-
-pub stored-none : (asked : ℕ → ℕ → ℤ → Type 0) (m : Matrix) → Stored asked m 0 0
-stored-none asked m = record { rows = λ r c p. absurd (omega arith); row = λ c p. absurd (omega arith) }
 
 pub stored-row : (asked : ℕ → ℕ → ℤ → Type 0) (m : Matrix) (i j : ℕ) → Stored asked m i j → opposite i + 1 ≤ j → Stored asked m (i + 1) 0
 stored-row asked m i j s h = record { rows = λ r c p q t. by r c q t p (cases_eq r i); row = λ c p. absurd (omega arith) }

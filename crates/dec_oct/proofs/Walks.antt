@@ -1,6 +1,5 @@
 -- The walk over the entries of one block's matrix.
-use Rattle.std.proofs.Common.{◌≡◌, ℕ, ◌+◌, ◌*◌, ◌/◌, ◌<◌, ◌≤◌, ◌⊎◌, inl, inr, Bool, true, false, List, [], ◌∷◌, ◌++◌, length, Some, None, refl, sym, ap, ◌∙◌, subst, arith, map, length-append}
-use Rattle.std.specs.Prelude.{◌↔◌}
+use Rattle.std.proofs.Common.{◌≡◌, ℕ, ◌+◌, ◌*◌, ◌/◌, ◌<◌, ◌≤◌, ◌⊎◌, inl, inr, List, [], ◌∷◌, ◌++◌, length, None, refl, sym, ap, ◌∙◌, subst, arith, map, length-append}
 use Rattle.std.proofs.lemmas.Bool.{eq-eqb, ne_eqb, cases_eq, cond-true, cond-false}
 use Rattle.std.proofs.lemmas.List.{get_or-map, length-map, get_or_push, get_or_append_left}
 use Rattle.oct_def.specs.Table.{Matrix, at}
@@ -94,20 +93,6 @@ relabelled-to from to = by (cases_eq to from)
     by : (to ≡ from) ⊎ (to ≡ from → ⊥) → relabelled from to to ≡ to
     by (inl e) = relabelled-from from to to e
     by (inr d) = relabelled-other from to to d
-
-relabelled-same : (a l : ℕ) → relabelled a a l ≡ l
-relabelled-same a l = by (cases_eq l a)
-  where
-    by : (l ≡ a) ⊎ (l ≡ a → ⊥) → relabelled a a l ≡ l
-    by (inl e) = relabelled-from a a l e ∙ sym e
-    by (inr d) = relabelled-other a a l d
-
-map-same : (a : ℕ) (ls : List ℕ) → map (relabelled a a) ls ≡ ls
-map-same a [] = refl
-map-same a (l ∷ ls) = ap (λ t. t ∷ map (relabelled a a) ls) (relabelled-same a l) ∙ ap (λ t. l ∷ t) (map-same a ls)
-
-pub labels-kept : (ls ms : List ℕ) (u w : ℕ) → member ls w ≡ member ls u → ms ≡ ls → ms ≡ map (relabelled (member ls w) (member ls u)) ls
-labels-kept ls ms u w e f = f ∙ sym (map-same (member ls u) ls) ∙ ap (λ t. map (relabelled t (member ls u)) ls) (sym e)
 
 member-map : (f : ℕ → ℕ) (ls : List ℕ) (x : ℕ) → x < length ls → member (map f ls) x ≡ f (member ls x)
 member-map f ls x h = get_or-map f ls x 0 0 h
@@ -230,9 +215,6 @@ kept-more m labels kept ks v l s e h = subst (KeptSoFar m labels (v + 1)) (sym e
         let q : x < v = grind (arith, d) in
         let z = s.size in
         subst (λ t. (HasJoin m x × (t ≡ member labels x)) ⊎ ((HasJoin m x → ⊥) × (t ≡ leaving))) (sym (get_or_append_left kept (l ∷ []) 0 x (omega arith))) (s.each x q)
-
-pub kept-none : (m : Matrix) (labels kept : List ℕ) → kept ≡ [] → KeptSoFar m labels 0 kept
-kept-none m labels kept e = record { size = ap length e; each = λ x p. absurd (omega arith) }
 
 pub kept-joined : (m : Matrix) (labels kept ks : List ℕ) (v l : ℕ) → KeptSoFar m labels v kept → ks ≡ kept ++ l ∷ [] → HasJoin m v → l ≡ member labels v → KeptSoFar m labels (v + 1) ks
 kept-joined m labels kept ks v l s e h f = kept-more m labels kept ks v l s e (inl (h, f))

@@ -3,7 +3,7 @@ use Rattle.std.specs.Prelude.{◌≡◌, ℕ, ◌<◌, ◌↔◌, nat_eq, List, 
 use Rattle.oct_def.specs.Bound.{Bound, least, plus, half}
 use Rattle.oct_def.specs.Table.{Matrix}
 use Rattle.oct_def.specs.Matrix.{opposite}
-use Rattle.block_partition.specs.Partition.{member, block, home, SameBlock, IsOrdered}
+use Rattle.block_partition.specs.Partition.{member, home, SameBlock, IsOrdered}
 use Rattle.block_partition.specs.Changes.{leaving}
 use Rattle.block_laws.specs.Assembly.{assembly_entry, assembly, IsParts}
 use Rattle.block_laws.specs.Components.{Joins, Linked, HasBound, IsComponents}
@@ -44,6 +44,10 @@ pub record IsChainLabels (n : ℕ) (m : Matrix) (labels : List ℕ) : Type 0 whe
 -- two members with one label, which isn't that of members that leave
 abbrev pub SameLabel : List ℕ → ℕ → ℕ → Type 0
 SameLabel labels u w = (member labels u ≡ member labels w) × (member labels u ≡ leaving → ⊥)
+
+-- all members have one label, and none leaves
+abbrev pub HaveOneLabel : List ℕ → Type 0
+HaveOneLabel labels = (i j : ℕ) → i < length labels → j < length labels → SameLabel labels i j
 
 -- the labels of the components of a block's matrix
 pub record IsLinkLabels (n : ℕ) (m : Matrix) (labels : List ℕ) : Type 0 where

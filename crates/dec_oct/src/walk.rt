@@ -4,9 +4,8 @@ ghost use Rattle.std.specs.Prelude.{◌≡◌, ℕ, ◌+◌, ◌*◌, ◌<◌, I
 ghost use Rattle.oct_def.specs.Table.{at};
 ghost use Rattle.oct_def.specs.Bound.{bound_of};
 ghost use Rattle.block_partition.specs.Partition.{member};
-ghost use Rattle.block_partition.specs.Changes.{leaving};
 ghost use Rattle.block_laws.specs.Components.{Joins};
-ghost use Rattle.dec_oct.specs.Cut.{relabelled, IsChainLabels, IsLinkLabels};
+ghost use Rattle.dec_oct.specs.Cut.{relabelled, IsChainLabels, IsLinkLabels, HaveOneLabel};
 
 use half_matrix::HalfBuf;
 use memory::NoMemory;
@@ -146,7 +145,8 @@ pub(crate) fn link_labels(alloc: Global, m: &HalfBuf) -> Result<Vec<u32>, NoMemo
 
 /// Whether all members have one label and none leaves.
 pub(crate) fn is_whole(labels: &[u32]) -> bool
-    ensures { result ≡ true → (i j : ℕ) → i < length labels.now → j < length labels.now → (member labels.now i ≡ member labels.now j) × (member labels.now i ≡ leaving → ⊥) }
+    ensures yes { result ≡ true → HaveOneLabel labels.now }
+    ensures no { result ≡ false → HaveOneLabel labels.now → ⊥ }
 {
     for i in 0..labels.len() {
         if labels[i] != labels[0] {

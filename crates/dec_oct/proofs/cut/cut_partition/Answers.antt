@@ -1,9 +1,9 @@
-use Rattle.std.proofs.Common.{◌≡◌, ℕ, ◌<◌, length, sym, ap, subst, ◌∙◌, arith}
-use Rattle.std.proofs.lemmas.List.{get_or_default}
-use Rattle.block_partition.specs.Partition.{member, block, home}
-use Rattle.block_partition.specs.Changes.{leaving, IsSplitBy}
+use Rattle.std.proofs.Common.{length, sym, ap, subst, ◌∙◌, arith}
+use Rattle.block_partition.specs.Partition.{member, home}
+use Rattle.block_partition.specs.Changes.{IsSplitBy}
 use Rattle.block_laws.specs.Assembly.{assembly}
-use Rattle.dec_oct.proofs.Cuts.{IsWhole, cut-start, cut-whole, cut-block, cut-split, cut-first, cut-last, walk-of}
+use Rattle.dec_oct.specs.Cut.{HaveOneLabel}
+use Rattle.dec_oct.proofs.Cuts.{IsWhole, cut-start, cut-whole, cut-block, cut-split, cut-last, walk-of}
 use Rattle.dec_oct.proofs.cut.cut_partition.Goals.{then-not-is_whole+in_ok-split_at, else-not-is_whole}
 use Rattle.dec_oct.proofs.cut.cut_partition.Goals as goal
 
@@ -15,7 +15,8 @@ split_at-requires-clause-block c =
     let bs = c.args.partition.now in
     let b = c.loop-b.b in
     let filled = c.known.ensures.ordered.filled b (omega arith) in
-    let wh : IsWhole bs c.loop-b.cut b (home c.loop-b.cut c.index-first.result) = cut-block c.args.dims bs c.loop-b.cut (assembly c.args.dims bs c.args.matrices.now) b c.index-first.result c.requires.few c.requires.parts.partition c.known-2.ensures.partition (omega arith) filled (cut-first bs b _ _ filled c.block-members.ensures c.index-first.ensures) c.loop-b.invariant in
+    let v = member c.block-members.result.now 0 in
+    let wh : IsWhole bs c.loop-b.cut b (home c.loop-b.cut v) = cut-block c.args.dims bs c.loop-b.cut (assembly c.args.dims bs c.args.matrices.now) b v c.requires.few c.requires.parts.partition c.known-in-loop-b.ensures.partition (omega arith) filled (ap (λ t. member t 0) c.block-members.ensures) c.loop-b.invariant in
     wh.within
 
 pub split_at-requires-clause-size : goal.split_at-requires-clause-size
@@ -23,7 +24,8 @@ split_at-requires-clause-size c =
     let bs = c.args.partition.now in
     let b = c.loop-b.b in
     let filled = c.known.ensures.ordered.filled b (omega arith) in
-    let wh : IsWhole bs c.loop-b.cut b (home c.loop-b.cut c.index-first.result) = cut-block c.args.dims bs c.loop-b.cut (assembly c.args.dims bs c.args.matrices.now) b c.index-first.result c.requires.few c.requires.parts.partition c.known-2.ensures.partition (omega arith) filled (cut-first bs b _ _ filled c.block-members.ensures c.index-first.ensures) c.loop-b.invariant in
+    let v = member c.block-members.result.now 0 in
+    let wh : IsWhole bs c.loop-b.cut b (home c.loop-b.cut v) = cut-block c.args.dims bs c.loop-b.cut (assembly c.args.dims bs c.args.matrices.now) b v c.requires.few c.requires.parts.partition c.known-in-loop-b.ensures.partition (omega arith) filled (ap (λ t. member t 0) c.block-members.ensures) c.loop-b.invariant in
     let walk = walk-of c.args.dims bs c.args.matrices.now b c.in_ok-labels.labels.items _ c.buf.result.now c.requires.parts (omega arith) c.buf.ensures c.index-matrices-b.is c.in_ok-labels.ensures in
     ap length c.deref-then-not-is_whole.ensures.value ∙ walk.told.size ∙ ap length (sym wh.same)
 
@@ -38,12 +40,13 @@ loop-b-preserved c =
     let walk = walk-of n bs ms b labels _ c.buf.result.now c.requires.parts (omega arith) c.buf.ensures c.index-matrices-b.is c.in_ok-labels.ensures in
     elim c.if-not-is_whole.branch [
       | then-not-is_whole+in_ok-split_at w ↦
-          let wh : IsWhole bs c.loop-b.cut b (home c.loop-b.cut w.index-first.result) = cut-block n bs c.loop-b.cut (assembly n bs ms) b w.index-first.result c.requires.few c.requires.parts.partition c.known-2.ensures.partition (omega arith) filled (cut-first bs b _ _ filled c.block-members.ensures w.index-first.ensures) c.loop-b.invariant in
-          cut-split n bs ms b labels c.loop-b.cut _ (home c.loop-b.cut w.index-first.result) walk wh c.loop-b.invariant
-          (subst (IsSplitBy c.loop-b.cut (home c.loop-b.cut w.index-first.result) labels) (sym w.cut-is) (subst (λ t. IsSplitBy c.loop-b.cut (home c.loop-b.cut w.index-first.result) t w.split_at.new.cut) w.deref-then-not-is_whole.ensures.value w.in_ok-split_at.ensures))
+          let v = member c.block-members.result.now 0 in
+          let wh : IsWhole bs c.loop-b.cut b (home c.loop-b.cut v) = cut-block n bs c.loop-b.cut (assembly n bs ms) b v c.requires.few c.requires.parts.partition c.known-in-loop-b.ensures.partition (omega arith) filled (ap (λ t. member t 0) c.block-members.ensures) c.loop-b.invariant in
+          cut-split n bs ms b labels c.loop-b.cut _ (home c.loop-b.cut v) walk wh c.loop-b.invariant
+          (subst (IsSplitBy c.loop-b.cut (home c.loop-b.cut v) labels) (sym w.cut-is) (subst (λ t. IsSplitBy c.loop-b.cut (home c.loop-b.cut v) t w.split_at.new.cut) w.deref-then-not-is_whole.ensures.value w.in_ok-split_at.ensures))
       | else-not-is_whole w ↦
           cut-whole n bs ms b labels c.loop-b.cut _ walk
-          (subst (λ t. (i j : ℕ) → i < length t → j < length t → (member t i ≡ member t j) × (member t i ≡ leaving → ⊥)) c.deref.ensures.value (c.is_whole.ensures w.if-not-is_whole.false))
+          (subst HaveOneLabel c.deref.ensures.value (c.is_whole.ensures.yes w.if-not-is_whole.false))
           c.loop-b.invariant w.cut-is
     ]
 

@@ -1,4 +1,3 @@
-use Rattle.std.proofs.Common.{◌≡◌}
 use Rattle.block_laws.specs.Assembly.{assembly}
 use Rattle.dec_oct.specs.Cut.{IsCutUpTo}
 use Rattle.dec_oct.proofs.cut.cut_partition.Given as goal

@@ -1,4 +1,4 @@
-use Rattle.std.proofs.Common.{◌≡◌, ◌*◌, sym, ◌∙◌, arith, length, rules}
+use Rattle.std.proofs.Common.{◌≡◌, sym, ◌∙◌, arith, length, rules}
 use Rattle.std.proofs.lemmas.Int.{to_z-of_z}
 use Rattle.oct_def.specs.Bound.{bound_of}
 use Rattle.oct_def.specs.Tight.{strengthening}

@@ -1,4 +1,4 @@
-use Rattle.std.proofs.Common.{◌≡◌, ◌≤◌, length, ap, arith}
+use Rattle.std.proofs.Common.{length, ap, arith}
 use Rattle.block_partition.proofs.Places.{block_size}
 use Rattle.dec_oct.proofs.parts.strong_parts_over.Goals as goal
 

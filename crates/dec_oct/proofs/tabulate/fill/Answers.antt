@@ -1,4 +1,4 @@
-use Rattle.std.proofs.Common.{◌≡◌, ℕ, ◌+◌, ◌*◌, ◌<◌, length, ap, ◌∙◌, arith, rules}
+use Rattle.std.proofs.Common.{◌≡◌, ℕ, length, ap, ◌∙◌, subst, arith, rules}
 use Rattle.std.specs.Prelude.{ℤ, FitsSigned}
 use Rattle.std.specs.Int.{w64}
 use Rattle.std.proofs.lemmas.Int.{to_z-of_z}
@@ -12,7 +12,7 @@ pub columns-preserved : goal.columns-preserved
 columns-preserved g c =
     let asked : ℕ → ℕ → ℤ → Type 0 = λ r s w. g.F.Fn.post c.args.entry (r, (s, tt)) w in
     let fits : FitsSigned w64 c.entry.result = search rules in
-    let e : c.set.new.self ≡ with_entry c.columns.m c.rows.i c.columns.j (bound_of c.entry.result) = c.set.ensures ∙ ap (λ w. with_entry c.columns.m c.rows.i c.columns.j (bound_of w)) (to_z-of_z w64 c.entry.result fits) in
+    let e : c.set.new.self ≡ with_entry c.columns.m c.rows.i c.columns.j (bound_of c.entry.result) = subst (λ w. c.set.new.self ≡ with_entry c.columns.m c.rows.i c.columns.j (bound_of w)) (to_z-of_z w64 c.entry.result fits) c.set.ensures in
     let r = c.vars-size.ensures.rows in
     let l = c.columns.invariant.0 in (
       ap length e ∙ length-set_entry c.columns.m c.rows.i c.columns.j (bound_of c.entry.result) ∙ l,

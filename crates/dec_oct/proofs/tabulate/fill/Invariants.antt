@@ -1,4 +1,4 @@
-use Rattle.std.proofs.Common.{◌≡◌, ◌*◌, length}
+use Rattle.std.proofs.Common.{◌≡◌, length}
 use Rattle.dec_oct.proofs.Stored.{Stored}
 use Rattle.dec_oct.proofs.tabulate.fill.Given as goal
 

@@ -1,4 +1,4 @@
-use Rattle.std.proofs.Common.{◌≡◌, ◌+◌, ◌*◌, sym, ap, ◌∙◌, arith}
+use Rattle.std.proofs.Common.{sym, ap, ◌∙◌, arith}
 use Rattle.dec_oct.proofs.Walks.{IsWalked, walk-start, walk-yes, walk-no, done-row, walk-end, chains-size}
 use Rattle.dec_oct.proofs.walk.chain_labels.Goals.{then-joins, else-joins}
 use Rattle.dec_oct.proofs.walk.chain_labels.Goals as goal

@@ -1,4 +1,4 @@
-use Rattle.std.proofs.Common.{◌≡◌, ◌*◌, ◌<◌, arith}
+use Rattle.std.proofs.Common.{arith}
 use Rattle.dec_oct.proofs.Walks.{column_below}
 use Rattle.dec_oct.proofs.walk.is_joined.Goals as goal
 

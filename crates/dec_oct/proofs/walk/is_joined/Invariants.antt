@@ -1,4 +1,4 @@
-use Rattle.std.proofs.Common.{◌≡◌, ℕ, ◌<◌}
+use Rattle.std.proofs.Common.{ℕ, ◌<◌}
 use Rattle.block_laws.specs.Components.{Joins}
 use Rattle.dec_oct.proofs.walk.is_joined.Given as goal
 

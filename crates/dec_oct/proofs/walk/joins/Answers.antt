@@ -1,4 +1,4 @@
-use Rattle.std.proofs.Common.{◌≡◌, ◌+◌, ◌*◌, arith}
+use Rattle.std.proofs.Common.{◌+◌, ◌*◌, arith}
 use Rattle.dec_oct.proofs.Walks.{joins-at, joins-none}
 use Rattle.dec_oct.proofs.walk.joins.Goals as goal
 

@@ -1,6 +1,6 @@
-use Rattle.std.proofs.Common.{◌≡◌, ◌+◌, ◌*◌, sym, ap, ◌∙◌, arith, length}
+use Rattle.std.proofs.Common.{sym, ap, ◌∙◌, arith}
 use Rattle.std.proofs.lemmas.List.{get_or_default}
-use Rattle.dec_oct.proofs.Walks.{IsWalked, kept-none, kept-joined, kept-free, links-all, links-size}
+use Rattle.dec_oct.proofs.Walks.{IsWalked, kept-joined, kept-free, links-all, links-size}
 use Rattle.dec_oct.proofs.walk.link_labels.Goals.{then-is_joined+in_ok-push, else-is_joined+in_ok-push-2}
 use Rattle.dec_oct.proofs.walk.link_labels.Goals as goal
 

@@ -1,4 +1,3 @@
-use Rattle.std.proofs.Common.{◌≡◌, ap, ◌∙◌}
 use Rattle.dec_oct.proofs.Walks.{own-pushed}
 use Rattle.dec_oct.proofs.walk.own_labels.Goals as goal
 
