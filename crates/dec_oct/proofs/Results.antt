@@ -1,14 +1,14 @@
 -- The values that are made.
-use Rattle.std.proofs.Common.{◌≡◌, ℕ, ◌+◌, ◌*◌, ◌<◌, ◌≤◌, Bool, true, List, length, Option, Some, None, refl, sym, ap, ◌∙◌, subst, arith}
-use Rattle.std.specs.Prelude.{ℤ, pos, int_le}
+use Rattle.std.proofs.Common.{◌≡◌, ℕ, ◌+◌, ◌*◌, ◌<◌, ◌≤◌, Bool, true, List, length, Some, None, refl, sym, ap, ◌∙◌, subst, arith}
+use Rattle.std.specs.Prelude.{pos}
 use Rattle.std.proofs.lemmas.Int.{ints}
 use Rattle.oct_def.specs.Bound.{Bound, InRange, at_most}
 use Rattle.oct_def.specs.Table.{Matrix, at}
 use Rattle.oct_def.specs.Matrix.{IsSquare, IsCoherent, IsEvenMatrix}
-use Rattle.oct_def.specs.Octagon.{Octagon, IsValueOver, bottom_value, tight_value}
+use Rattle.oct_def.specs.Octagon.{IsValueOver, bottom_value, tight_value}
 use Rattle.oct_def.specs.Tight.{tight, strengthening}
 use Rattle.oct_def.proofs.Values.{IsShape, LowDiagonal, IsLow, low, each-table, value-tight_low}
-use Rattle.block_partition.specs.Partition.{member, block, IsPartition, IsOrdered}
+use Rattle.block_partition.specs.Partition.{block, IsPartition}
 use Rattle.block_partition.specs.Changes.{IsMergedBy}
 use Rattle.block_partition.proofs.Places.{block_size}
 use Rattle.block_laws.specs.Assembly.{matrix, restrict, restrict_entry, outer, assembly, IsParts}
@@ -21,14 +21,13 @@ use Rattle.block_laws.proofs.Closing.{tight-assembly, tight-assembly_empty, leng
 use Rattle.block_laws.proofs.Components.{separated-merged, square-strengthening}
 use Rattle.block_laws.proofs.Merged.{parts-tight}
 use Rattle.dec_oct.specs.Value.{Blocks, blocks_of, whole, Decomposed, decomposed, octagon, octagon_of, IsSettled, IsDecomposition}
-use Rattle.dec_oct.specs.Cost.{TellsMarks, IsSecondCost, IsBoundedCount, CostsAtMost, unmarked_cost, ClosesEach, TellsAgain, TellsAgainOf}
-use Rattle.dec_oct.specs.Given.{IsGiven, IsEvenGiven, IsLooseGiven, KeepsMarks, KeepsMarksOf}
+use Rattle.dec_oct.specs.Cost.{TellsMarks, unmarked_cost, ClosesEach, TellsAgain}
+use Rattle.dec_oct.specs.Given.{IsGiven, IsEvenGiven, IsLooseGiven, KeepsMarks}
 use Rattle.dec_oct.specs.Cut.{IsCut, IsBounded}
-use Rattle.dec_oct.specs.Closed.{IsClosedBlocks, IsClosedValue}
-use Rattle.dec_oct.proofs.Assembled.{coherent-assembly, shape-assembly, low_diagonal-assembly, even-assembly}
+use Rattle.dec_oct.specs.Closed.{IsClosedValue}
+use Rattle.dec_oct.proofs.Assembled.{shape-assembly, low_diagonal-assembly, even-assembly}
 use Rattle.dec_oct.proofs.Bounded.{merged-is, merged-partition}
 use Rattle.dec_oct.proofs.Cuts.{square-part}
-use Rattle.dec_oct.proofs.Flags.{marks-settled, again-settled}
 
 -- ---- what given parts are
 
@@ -176,21 +175,6 @@ closed-is n a m ps rs known again old new t c told g bound = record {
   cost = record { known = known; told = told; sum = refl };
   bound = bound;
 }
-
-pub tight-end : (n d : ℕ) (a : Blocks) (o : Option Blocks) (old mid new : ℕ) → d ≡ n → IsClosedValue n a o mid new → mid ≤ old + unmarked_cost a.matrices a.marks
-    → (octagon (decomposed d o) ≡ octagon_of n (tight (whole n a))) × (TellsAgainOf o × CostsAtMost a o old new)
-tight-end n d a None old mid new e h k = absurd h
-tight-end n d a (Some b) old mid new e h k = (
-  ap (λ x. octagon (decomposed x (Some b))) e ∙ ap (octagon_of n) (sym h.closed),
-  (
-    h.again,
-    record {
-      second = h.second;
-      cost = h.cost;
-      bound = let x = h.bound in omega arith;
-    },
-  ),
-)
 
 pub bottom-end : (n : ℕ) (m : Matrix) → tight m ≡ None → bottom_value n ≡ octagon_of n (tight m)
 unfolding bottom_value
