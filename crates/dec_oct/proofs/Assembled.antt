@@ -1,16 +1,16 @@
 -- What is true of each block's matrix is true of the assembly.
-use Rattle.std.proofs.Common.{◌≡◌, ℕ, ◌+◌, ◌-◌, ◌*◌, ◌/◌, ◌%◌, ◌<◌, ◌≤◌, ◌⊎◌, inl, inr, Bool, true, false, cond, List, length, Some, None, refl, sym, ap, ◌∙◌, subst, arith}
+use Rattle.std.proofs.Common.{◌≡◌, ℕ, ◌*◌, ◌/◌, ◌<◌, ◌⊎◌, inl, inr, Bool, true, false, cond, List, length, Some, None, refl, sym, ap, ◌∙◌, subst, arith}
 use Rattle.std.specs.Prelude.{pos, nat_eq}
 use Rattle.std.proofs.lemmas.Bool.{cases_Bool}
 use Rattle.std.proofs.lemmas.Bool.Decides.{Decides-eqb, same_from_decides}
 use Rattle.oct_def.specs.Bound.{Bound, InRange, IsEven}
-use Rattle.oct_def.specs.Table.{Matrix, table, at}
-use Rattle.oct_def.specs.Matrix.{opposite, IsSquare, IsCoherent, IsMatrix, IsEvenMatrix}
+use Rattle.oct_def.specs.Table.{Matrix, at}
+use Rattle.oct_def.specs.Matrix.{opposite, IsSquare, IsCoherent, IsEvenMatrix}
 use Rattle.oct_def.specs.Octagon.{top_entry}
 use Rattle.oct_def.proofs.Values.{IsShape, IsLow, low, LowDiagonal, each-table, even_unary-table, EvenUnary}
 use Rattle.oct_def.proofs.Coherent.{coherent-table}
-use Rattle.oct_def.proofs.Indices.{opposite_below, opposite_same}
-use Rattle.oct_def.proofs.Tables.{length-table, at-table, square-table}
+use Rattle.oct_def.proofs.Indices.{opposite_same}
+use Rattle.oct_def.proofs.Tables.{square-table}
 use Rattle.std.proofs.lemmas.Int.{ints}
 use Rattle.block_partition.specs.Partition.{place, IsIn, block, home}
 use Rattle.block_partition.proofs.Places.{home_in}

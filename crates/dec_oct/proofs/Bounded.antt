@@ -21,12 +21,6 @@ pub record IsBoundedSoFar (n : ℕ) (m : Matrix) (k : ℕ) (vs : List ℕ) : Typ
   pub only : (i : ℕ) → i < length vs → (member vs i < n) × HasBound m (member vs i)
   pub all : (v : ℕ) → v < k → HasBound m v → (i : ℕ) × (i < length vs) × (member vs i ≡ v)
 
-pub so_far-none : (n : ℕ) (m : Matrix) (vs : List ℕ) → vs ≡ [] → IsBoundedSoFar n m 0 vs
-so_far-none n m vs e = record { only = λ i p. absurd (let l = ap length e in omega arith); all = λ v p. absurd (omega arith) }
-
-pub so_far-all : (n : ℕ) (m : Matrix) (k : ℕ) (vs : List ℕ) → IsBoundedSoFar n m k vs → n ≤ k → IsBounded n m vs
-so_far-all n m k vs s h = record { only = s.only; all = λ v p. s.all v (omega arith) }
-
 pub bound-at : (n : ℕ) (bs : List (List ℕ)) (ms : List Matrix) (v i j : ℕ) (x : ℤ) → i < 2 * n → i / 2 ≡ v → j ≡ opposite i → bound_of x ≡ assembly_entry bs ms i j → (bound_of x ≡ None → ⊥) → HasBound (assembly n bs ms) v
 bound-at n bs ms v i j x p e f g h = record {
   side = i;

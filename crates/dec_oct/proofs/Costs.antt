@@ -1,5 +1,5 @@
 -- Steps of the loop that closes unmarked blocks.
-use Rattle.std.proofs.Common.{◌≡◌, ℕ, ◌+◌, ◌-◌, ◌*◌, ◌/◌, ◌<◌, ◌≤◌, ◌⊎◌, inl, inr, Bool, true, false, cond, List, [], ◌∷◌, ◌++◌, length, length-append, Option, Some, refl, sym, ap, ◌∙◌, subst, arith, zero, suc, get_or, add-one}
+use Rattle.std.proofs.Common.{◌≡◌, ℕ, ◌+◌, ◌-◌, ◌<◌, ◌≤◌, ◌⊎◌, inl, inr, Bool, true, false, cond, List, [], ◌∷◌, ◌++◌, length, length-append, Option, Some, sym, ap, ◌∙◌, subst, arith, zero, suc, get_or, add-one}
 use Rattle.std.specs.Prelude.{min, ◌^◌}
 use Rattle.std.proofs.lemmas.Bool.{cases_eq}
 use Rattle.std.proofs.lemmas.List.{get_or_default, get_or_push, get_or_append_left}
@@ -7,7 +7,7 @@ use Rattle.oct_def.specs.Table.{Matrix}
 use Rattle.oct_def.specs.Tight.{tight}
 use Rattle.block_laws.specs.Assembly.{matrix}
 use Rattle.dec_oct.specs.Value.{marked}
-use Rattle.dec_oct.specs.Cost.{cost, cost_below, unmarked_cost}
+use Rattle.dec_oct.specs.Cost.{cost, cost_below}
 
 pub cost-marked : (ms : List Matrix) (marks : List Bool) (b : ℕ) → marked marks b ≡ true → cost_below ms marks (b + 1) ≡ cost_below ms marks b
 unfolding cost_below

@@ -1,5 +1,5 @@
 -- Marked blocks.
-use Rattle.std.proofs.Common.{◌≡◌, ℕ, ◌+◌, ◌-◌, ◌<◌, ◌≤◌, ◌⊎◌, inl, inr, Bool, true, false, List, [], ◌∷◌, ◌++◌, length, length-append, get_or, Some, refl, sym, ap, ◌∙◌, subst, arith}
+use Rattle.std.proofs.Common.{◌≡◌, ℕ, ◌+◌, ◌<◌, ◌⊎◌, inl, inr, Bool, true, false, List, [], ◌∷◌, ◌++◌, length, length-append, get_or, Some, sym, ap, ◌∙◌, subst, arith}
 use Rattle.std.specs.Prelude.{◌↔◌}
 use Rattle.std.proofs.lemmas.Bool.{cases_eq, cases_Bool, both_ways}
 use Rattle.std.proofs.lemmas.List.{get_or_push, get_or_append_left, get_or_default}
@@ -16,9 +16,6 @@ pub record IsFlagged (P : ℕ → Type 0) (c : ℕ) (xs : List Bool) : Type 0 wh
   pub size : length xs ≡ c
   pub exact : (k : ℕ) → k < c → (marked xs k ≡ true) ↔ P k
 
-pub flagged-none : (P : ℕ → Type 0) (xs : List Bool) → xs ≡ [] → IsFlagged P 0 xs
-flagged-none P xs e = record { size = ap length e; exact = λ k p. absurd (omega arith) }
-
 pub flagged-more : (P : ℕ → Type 0) (c : ℕ) (xs ys : List Bool) (b : Bool) → IsFlagged P c xs → ys ≡ xs ++ b ∷ [] → (b ≡ true → P c) → (b ≡ false → P c → ⊥) → IsFlagged P (c + 1) ys
 flagged-more P c xs ys b s e there none = subst (IsFlagged P (c + 1)) (sym e) (record {
   size = let z = s.size in length-append xs (b ∷ []) ∙ omega arith;
@@ -32,12 +29,6 @@ flagged-more P c xs ys b s e there none = subst (IsFlagged P (c + 1)) (sym e) (r
     by : (k : ℕ) → k < c + 1 → (k ≡ c) ⊎ (k ≡ c → ⊥) → (marked (xs ++ b ∷ []) k ≡ true) ↔ P k
     by k p (inl f) = subst (λ t. (t ≡ true) ↔ P k) (sym (get_or_push xs b false k (s.size ∙ sym f))) (subst (λ t. (b ≡ true) ↔ P t) (sym f) (there, at_last (cases_Bool b)))
     by k p (inr d) = let q : k < c = grind (arith, d) in let z = s.size in subst (λ t. (t ≡ true) ↔ P k) (sym (get_or_append_left xs (b ∷ []) false k (omega arith))) (s.exact k q)
-
-pub told-marks : (a : Blocks) (bs : List (List ℕ)) (ms : List Matrix) (c : ℕ) (xs : List Bool) → IsFlagged (λ k. IsMarkedBlock a (block bs k) (matrix ms k)) c xs → c ≡ length bs → TellsMarks a bs ms xs
-told-marks a bs ms c xs s e = record { size = s.size ∙ e; exact = λ k p. s.exact k (omega arith) }
-
-pub told-again : (ms : List Matrix) (c : ℕ) (xs : List Bool) → IsFlagged (λ k. tight (matrix ms k) ≡ Some (matrix ms k)) c xs → c ≡ length ms → TellsAgain ms xs
-told-again ms c xs s e = record { size = s.size ∙ e; exact = λ k p. s.exact k (omega arith) }
 
 -- the matrix of a marked block is closed
 pub marked-again : (a : Blocks) (vs : List ℕ) (m : Matrix) → length a.matrices ≡ length a.partition → IsSettled a.matrices a.marks → IsMarkedBlock a vs m → tight m ≡ Some m
@@ -61,9 +52,6 @@ flag-again ms c xs ys b x s e f there none =
     flagged-more _ c xs ys b s e (λ t. subst (λ m. tight m ≡ Some m) f (there t)) (λ t h. none t (subst (λ m. tight m ≡ Some m) (sym f) h))
 
 -- ---- one block
-
-pub marked-yes : (bs : List (List ℕ)) (ms : List Matrix) (marks : List Bool) (vs : List ℕ) (m x : Matrix) (b : ℕ) → b < length bs → block bs b ≡ vs → x ≡ get_or ms b x → length ms ≡ length bs → marked marks b ≡ true → x ≡ m → IsMarkedBlock (blocks_of bs ms marks) vs m
-marked-yes bs ms marks vs m x b p e f s g h = record { place = b; within = p; members = e; words = sym (f ∙ get_or_default ms b x [] (omega arith)) ∙ h; mark = g }
 
 pub block-unique : (bs : List (List ℕ)) (vs : List ℕ) (p b : ℕ) → IsPartition 512 bs → 0 < length vs → p < length bs → b < length bs → block bs p ≡ vs → block bs b ≡ vs → p ≡ b
 block-unique bs vs p b pt h q r e f =

@@ -1,14 +1,14 @@
 -- The values that are made.
-use Rattle.std.proofs.Common.{◌≡◌, ℕ, ◌+◌, ◌*◌, ◌<◌, ◌≤◌, Bool, true, List, length, Option, Some, None, refl, sym, ap, ◌∙◌, subst, arith}
-use Rattle.std.specs.Prelude.{ℤ, pos, int_le}
+use Rattle.std.proofs.Common.{◌≡◌, ℕ, ◌+◌, ◌*◌, ◌<◌, ◌≤◌, Bool, true, List, length, Some, None, refl, sym, ap, ◌∙◌, subst, arith}
+use Rattle.std.specs.Prelude.{pos}
 use Rattle.std.proofs.lemmas.Int.{ints}
 use Rattle.oct_def.specs.Bound.{Bound, InRange, at_most}
 use Rattle.oct_def.specs.Table.{Matrix, at}
 use Rattle.oct_def.specs.Matrix.{IsSquare, IsCoherent, IsEvenMatrix}
-use Rattle.oct_def.specs.Octagon.{Octagon, IsValueOver, bottom_value, tight_value}
+use Rattle.oct_def.specs.Octagon.{IsValueOver, bottom_value, tight_value}
 use Rattle.oct_def.specs.Tight.{tight, strengthening}
 use Rattle.oct_def.proofs.Values.{IsShape, LowDiagonal, IsLow, low, each-table, value-tight_low}
-use Rattle.block_partition.specs.Partition.{member, block, IsPartition, IsOrdered}
+use Rattle.block_partition.specs.Partition.{block, IsPartition}
 use Rattle.block_partition.specs.Changes.{IsMergedBy}
 use Rattle.block_partition.proofs.Places.{block_size}
 use Rattle.block_laws.specs.Assembly.{matrix, restrict, restrict_entry, outer, assembly, IsParts}
@@ -21,14 +21,13 @@ use Rattle.block_laws.proofs.Closing.{tight-assembly, tight-assembly_empty, leng
 use Rattle.block_laws.proofs.Components.{separated-merged, square-strengthening}
 use Rattle.block_laws.proofs.Merged.{parts-tight}
 use Rattle.dec_oct.specs.Value.{Blocks, blocks_of, whole, Decomposed, decomposed, octagon, octagon_of, IsSettled, IsDecomposition}
-use Rattle.dec_oct.specs.Cost.{TellsMarks, IsSecondCost, IsBoundedCount, CostsAtMost, unmarked_cost, ClosesEach, TellsAgain, TellsAgainOf}
-use Rattle.dec_oct.specs.Given.{IsGiven, IsEvenGiven, IsLooseGiven, KeepsMarks, KeepsMarksOf}
+use Rattle.dec_oct.specs.Cost.{TellsMarks, unmarked_cost, ClosesEach, TellsAgain}
+use Rattle.dec_oct.specs.Given.{IsGiven, IsEvenGiven, IsLooseGiven, KeepsMarks}
 use Rattle.dec_oct.specs.Cut.{IsCut, IsBounded}
-use Rattle.dec_oct.specs.Closed.{IsClosedBlocks, IsClosedValue}
-use Rattle.dec_oct.proofs.Assembled.{coherent-assembly, shape-assembly, low_diagonal-assembly, even-assembly}
+use Rattle.dec_oct.specs.Closed.{IsClosedValue}
+use Rattle.dec_oct.proofs.Assembled.{shape-assembly, low_diagonal-assembly, even-assembly}
 use Rattle.dec_oct.proofs.Bounded.{merged-is, merged-partition}
 use Rattle.dec_oct.proofs.Cuts.{square-part}
-use Rattle.dec_oct.proofs.Flags.{marks-settled, again-settled}
 
 -- ---- what given parts are
 
@@ -140,13 +139,16 @@ merged-assembly n bs cs ns rs mg size each = (
     m : Matrix
     m = assembly n bs ns
 
-pub merged-blocks : (n : ℕ) (bs cs ds : List (List ℕ)) (ns rs : List Matrix) (vs : List ℕ) → n ≤ 512 → IsParts n bs ns → IsPartition 512 cs → IsBounded n (assembly n bs ns) vs → ds ≡ bs → IsMergedBy ds vs cs → length rs ≡ length cs
-    → ((c : ℕ) → c < length cs → matrix rs c ≡ restrict (block cs c) (strengthening (assembly n bs ns))) → IsParts n cs rs × (assembly n cs rs ≡ strengthening (assembly n bs ns))
-merged-blocks n bs cs ds ns rs vs few ps pc bd e mg size each =
-    merged-assembly n bs cs ns rs (merged-is n bs cs (assembly n bs ns) vs few (length-assembly n bs ns) (separated-assembly n bs ns) ps.partition pc bd (subst (λ t. IsMergedBy t vs cs) e mg)) size each
+merged-same : (bs cs ds : List (List ℕ)) (vs us : List ℕ) → ds ≡ bs → us ≡ vs → IsMergedBy ds us cs → IsMergedBy bs vs cs
+merged-same bs cs ds vs us e f mg = subst (λ t. IsMergedBy t vs cs) e (subst (λ t. IsMergedBy ds t cs) f mg)
 
-pub merged-over : (n : ℕ) (bs cs ds : List (List ℕ)) (m : Matrix) (vs : List ℕ) → n ≤ 512 → IsPartition n bs → IsPartition 512 cs → IsBounded n m vs → ds ≡ bs → IsMergedBy ds vs cs → IsPartition n cs
-merged-over n bs cs ds m vs few pb pc bd e mg = merged-partition n bs cs vs few pb pc (subst (λ t. IsMergedBy t vs cs) e mg) (λ k p. (bd.only k p).0)
+pub merged-blocks : (n : ℕ) (bs cs ds : List (List ℕ)) (ns rs : List Matrix) (vs us : List ℕ) → n ≤ 512 → IsParts n bs ns → IsPartition 512 cs → IsBounded n (assembly n bs ns) vs → ds ≡ bs → us ≡ vs → IsMergedBy ds us cs → length rs ≡ length cs
+    → ((c : ℕ) → c < length cs → matrix rs c ≡ restrict (block cs c) (strengthening (assembly n bs ns))) → IsParts n cs rs × (assembly n cs rs ≡ strengthening (assembly n bs ns))
+merged-blocks n bs cs ds ns rs vs us few ps pc bd e f mg size each =
+    merged-assembly n bs cs ns rs (merged-is n bs cs (assembly n bs ns) vs few (length-assembly n bs ns) (separated-assembly n bs ns) ps.partition pc bd (merged-same bs cs ds vs us e f mg)) size each
+
+pub merged-over : (n : ℕ) (bs cs ds : List (List ℕ)) (m : Matrix) (vs us : List ℕ) → n ≤ 512 → IsPartition n bs → IsPartition 512 cs → IsBounded n m vs → ds ≡ bs → us ≡ vs → IsMergedBy ds us cs → IsPartition n cs
+merged-over n bs cs ds m vs us few pb pc bd e f mg = merged-partition n bs cs vs few pb pc (merged-same bs cs ds vs us e f mg) (λ k p. (bd.only k p).0)
 
 pub closed-parts : (n : ℕ) (bs : List (List ℕ)) (ms ns : List Matrix) → IsParts n bs ms → ClosesEach ms (Some ns) → IsParts n bs ns
 closed-parts n bs ms ns ps h = let size = ps.count in parts-tight n bs ms ns ps (h.0 ∙ ps.count) (λ b p. h.1 b (omega arith))
@@ -164,32 +166,15 @@ closed-even n bs cs ms ns rs ps v l h e = (t, even-tight n (assembly n bs ms) (a
     t : tight (assembly n bs ms) ≡ Some (assembly n cs rs)
     t = tight-assembly n bs ms ns ps (λ b p. h.1 b (let z = ps.count in omega arith)) ∙ ap Some (sym e)
 
-pub closed-is : (n : ℕ) (a : Blocks) (m : Matrix) (ps : List (List ℕ)) (rs : List Matrix) (known again : List Bool) (old new : ℕ) → tight (whole n a) ≡ Some m → IsCut n m ps rs → TellsMarks a ps rs known → TellsAgain rs again → old ≤ new → new ≤ old + unmarked_cost rs known
+pub closed-is : (n : ℕ) (a : Blocks) (m : Matrix) (ps : List (List ℕ)) (rs : List Matrix) (known again : List Bool) (old new : ℕ) → tight (whole n a) ≡ Some m → IsCut n m ps rs → TellsMarks a ps rs known → TellsAgain rs again → new ≤ old + unmarked_cost rs known
     → IsClosedValue n a (Some (blocks_of ps rs again)) old new
-closed-is n a m ps rs known again old new t c told g rises bound = record {
+closed-is n a m ps rs known again old new t c told g bound = record {
   closed = t ∙ ap Some (sym c.same);
   again = g;
-  rises = rises;
   second = unmarked_cost rs known;
   cost = record { known = known; told = told; sum = refl };
   bound = bound;
 }
-
-pub tight-end : (n d : ℕ) (a : Blocks) (o : Option Blocks) (old mid new : ℕ) → d ≡ n → IsClosedValue n a o mid new → old ≤ mid → mid ≤ old + unmarked_cost a.matrices a.marks
-    → (octagon (decomposed d o) ≡ octagon_of n (tight (whole n a))) × (TellsAgainOf o × CostsAtMost a o old new)
-tight-end n d a None old mid new e h r k = absurd h
-tight-end n d a (Some b) old mid new e h r k = (
-  ap (λ x. octagon (decomposed x (Some b))) e ∙ ap (octagon_of n) (sym h.closed),
-  (
-    h.again,
-    record {
-      rises = let x = h.rises in omega arith;
-      second = h.second;
-      cost = h.cost;
-      bound = let x = h.bound in omega arith;
-    },
-  ),
-)
 
 pub bottom-end : (n : ℕ) (m : Matrix) → tight m ≡ None → bottom_value n ≡ octagon_of n (tight m)
 unfolding bottom_value

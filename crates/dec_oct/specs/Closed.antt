@@ -8,7 +8,6 @@ use Rattle.dec_oct.specs.Cost.{IsSecondCost, TellsAgain}
 pub record IsClosedBlocks (n : ℕ) (a b : Blocks) (old new : ℕ) : Type 0 where
   pub closed : tight (whole n a) ≡ Some (whole n b)
   pub again : TellsAgain b.matrices b.marks
-  pub rises : old ≤ new
   pub second : ℕ
   pub cost : IsSecondCost a b second
   pub bound : new ≤ old + second

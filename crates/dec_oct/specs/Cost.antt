@@ -41,14 +41,13 @@ pub record IsSecondCost (a b : Blocks) (cost : ℕ) : Type 0 where
 -- a count rises by at most the cost of all unmarked blocks of the argument and that of the blocks of the result that are
 -- no marked blocks of the argument
 pub record IsBoundedCount (a b : Blocks) (old new : ℕ) : Type 0 where
-  pub rises : old ≤ new
   pub second : ℕ
   pub cost : IsSecondCost a b second
   pub bound : new ≤ old + unmarked_cost a.matrices a.marks + second
 
 -- the same where the result is Bottom, which has no blocks
 abbrev pub CostsAtMost : Blocks → Option Blocks → ℕ → ℕ → Type 0
-CostsAtMost a None old new = (old ≤ new) × (new ≤ old + unmarked_cost a.matrices a.marks)
+CostsAtMost a None old new = new ≤ old + unmarked_cost a.matrices a.marks
 CostsAtMost a (Some b) old new = IsBoundedCount a b old new
 
 -- the closing of Bottom costs nothing

@@ -1,5 +1,5 @@
 -- Parts of which a value is made.
-use Rattle.std.specs.Prelude.{◌≡◌, ℕ, ◌*◌, ◌<◌, true, Option, Some, None, List, length, pos}
+use Rattle.std.specs.Prelude.{◌≡◌, ℕ, ◌*◌, ◌<◌, true, Option, Some, None, length, pos}
 use Rattle.oct_def.specs.Bound.{InRange, IsEven, at_most}
 use Rattle.oct_def.specs.Table.{at}
 use Rattle.oct_def.specs.Matrix.{opposite}

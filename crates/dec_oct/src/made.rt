@@ -63,6 +63,7 @@ fn closed_value(
     requires shapes { (b : ℕ) → b < length given.now.matrices.items → IsSquare (matrix given.now.matrices.items b) × IsCoherent (matrix given.now.matrices.items b) }
     requires closed { ClosesEach given.now.matrices.items (Some closed.now) }
     ensures dims { IfOk result (λ v. v.dims ≡ dims) }
+    ensures rises { count.old ≤ count.new }
     ensures value { IfOk result (λ v. IsClosedValue dims (blocks_of given.now.partition given.now.matrices.items given.now.settled.items) v.blocks count.old count.new) }
 {
     know_shapes(closed);
@@ -91,6 +92,7 @@ pub(crate) fn closed_parts(
     requires given { IsLooseGiven dims (blocks_of given.now.partition given.now.matrices.items given.now.settled.items) }
     ensures value { IfOk result (λ v. octagon v ≡ octagon_of dims (tight (assembly dims given.now.partition given.now.matrices.items))) }
     ensures marks { IfOk result (λ v. TellsAgainOf v.blocks) }
+    ensures rises { count.old ≤ count.new }
     ensures count { IfOk result (λ v. CostsAtMost (blocks_of given.now.partition given.now.matrices.items given.now.settled.items) v.blocks count.old count.new) }
 {
     know_shapes(&given.matrices);

@@ -168,6 +168,7 @@ impl DecOct {
         requires given { IsLooseGiven parts.dims (blocks_of parts.partition parts.matrices.items parts.settled.items) }
         ensures value { IfOk result (λ v. octagon v ≡ octagon_of parts.dims (tight (assembly parts.dims parts.partition parts.matrices.items))) }
         ensures marks { IfOk result (λ v. TellsAgainOf v.blocks) }
+        ensures rises { count.old ≤ count.new }
         ensures count { IfOk result (λ v. CostsAtMost (blocks_of parts.partition parts.matrices.items parts.settled.items) v.blocks count.old count.new) }
     {
         let dims = parts.dims;
@@ -185,6 +186,7 @@ impl DecOct {
     pub fn close(&self, alloc: Global, count: &mut RowCount) -> Result<DecOct, NoMemory>
         ensures value { IfOk result (λ v. octagon v ≡ tight_value (octagon self.now)) }
         ensures marks { IfOk result (λ v. TellsAgainOf v.blocks) }
+        ensures rises { count.old ≤ count.new }
         ensures count { IfOk result (λ v. CostsAtMostOf self.now.blocks v.blocks count.old count.new) }
     {
         match &self.held {

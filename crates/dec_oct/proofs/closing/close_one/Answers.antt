@@ -1,4 +1,4 @@
-use Rattle.std.proofs.Common.{◌≡◌, ◌*◌, sym, length, arith, ◌∙◌}
+use Rattle.std.proofs.Common.{sym}
 use Rattle.dec_oct.proofs.Costs.{count-min}
 use Rattle.dec_oct.proofs.closing.close_one.Goals as goal
 

@@ -1,4 +1,4 @@
-use Rattle.std.proofs.Common.{◌≡◌, arith, ap, ◌∙◌, sym}
+use Rattle.std.proofs.Common.{arith, ap, ◌∙◌}
 use Rattle.dec_oct.proofs.Costs.{count-rest, count-closed_rest, count-closed, cost-marked, size-pushed, each-pushed, copy-tight, closed-tight}
 use Rattle.dec_oct.proofs.closing.close_unmarked.Goals.{then-marks-b+in_ok-m+in_ok-push, else-marks-b+in_ok-m-2+in-Some+in_ok-push-in-Some}
 use Rattle.dec_oct.proofs.closing.close_unmarked.Goals as goal

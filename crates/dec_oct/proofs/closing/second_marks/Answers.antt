@@ -1,4 +1,4 @@
-use Rattle.std.proofs.Common.{◌≡◌, ◌+◌, arith, ap, ◌∙◌}
+use Rattle.std.proofs.Common.{arith, ap, ◌∙◌}
 use Rattle.dec_oct.proofs.Costs.{count-rest, count-closed_rest, count-closed, cost-marked}
 use Rattle.dec_oct.proofs.Entries.{read-at}
 use Rattle.dec_oct.proofs.Flags.{flag-known, flag-again}

@@ -1,4 +1,4 @@
-use Rattle.std.proofs.Common.{◌≡◌, ℕ, ◌≤◌, ◌+◌, Some}
+use Rattle.std.proofs.Common.{◌≡◌, ◌≤◌, ◌+◌, Some}
 use Rattle.oct_def.specs.Tight.{tight}
 use Rattle.block_laws.specs.Assembly.{matrix}
 use Rattle.dec_oct.specs.Cost.{cost_below}

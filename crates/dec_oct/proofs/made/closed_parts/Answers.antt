@@ -1,4 +1,4 @@
-use Rattle.std.proofs.Common.{◌≡◌, ℕ, ◌*◌, ◌<◌, ◌≤◌, length, None, sym, ap, subst, ◌∙◌, arith}
+use Rattle.std.proofs.Common.{ℕ, ◌*◌, ◌<◌, ◌≤◌, length, None, sym, subst, ◌∙◌, arith}
 use Rattle.block_laws.specs.Assembly.{matrix}
 use Rattle.dec_oct.specs.Cost.{ClosesEach}
 use Rattle.dec_oct.specs.Value.{blocks_of}

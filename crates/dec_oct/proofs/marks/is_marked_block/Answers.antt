@@ -1,4 +1,4 @@
-use Rattle.std.proofs.Common.{◌≡◌, sym, subst, arith, ◌∙◌, ap}
+use Rattle.std.proofs.Common.{sym, ◌∙◌}
 use Rattle.dec_oct.proofs.Flags.{marked-same, marked-words}
 use Rattle.dec_oct.proofs.marks.is_marked_block.Goals as goal
 

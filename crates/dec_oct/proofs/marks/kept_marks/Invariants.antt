@@ -1,4 +1,3 @@
-use Rattle.std.proofs.Common.{◌≡◌, ℕ}
 use Rattle.block_partition.specs.Partition.{block}
 use Rattle.block_laws.specs.Assembly.{matrix}
 use Rattle.dec_oct.specs.Value.{blocks_of}

@@ -1,4 +1,4 @@
-use Rattle.std.proofs.Common.{◌≡◌, ap, ◌∙◌, sym, arith, rules}
+use Rattle.std.proofs.Common.{ap, ◌∙◌, arith}
 use Rattle.dec_oct.proofs.Bounded.{so_far-yes, so_far-no}
 use Rattle.dec_oct.proofs.merge.bounded.Goals.{then-has_bound+in_ok-push, else-has_bound}
 use Rattle.dec_oct.proofs.merge.bounded.Goals as goal

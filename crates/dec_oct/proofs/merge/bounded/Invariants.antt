@@ -1,5 +1,4 @@
 use Rattle.block_laws.specs.Assembly.{assembly}
-use Rattle.dec_oct.specs.Cut.{IsBounded}
 use Rattle.dec_oct.proofs.Bounded.{IsBoundedSoFar}
 use Rattle.dec_oct.proofs.merge.bounded.Given as goal
 
