@@ -66,9 +66,12 @@ member-at_least n vs bl (suc i) h =
     let s = bl.rising i (suc i) (omega arith) h in
     omega arith
 
-pub block_size : (n : ℕ) (bs : List (List ℕ)) (b : ℕ) → IsPartition n bs → b < length bs → length (block bs b) ≤ n
-block_size n bs b p h = by (cases_lt n (length (block bs b)))
+pub block_length : (n : ℕ) (vs : List ℕ) → IsBlock n vs → length vs ≤ n
+block_length n vs bl = by (cases_lt n (length vs))
   where
-    by : (n < length (block bs b)) ⊎ (length (block bs b) ≤ n) → length (block bs b) ≤ n
-    by (inl q) = let r = member-at_least n (block bs b) (p.blocks b h) n q in let s = (p.blocks b h).below n q in absurd (omega arith)
+    by : (n < length vs) ⊎ (length vs ≤ n) → length vs ≤ n
+    by (inl q) = let r = member-at_least n vs bl n q in let s = bl.below n q in absurd (omega arith)
     by (inr q) = q
+
+pub block_size : (n : ℕ) (bs : List (List ℕ)) (b : ℕ) → IsPartition n bs → b < length bs → length (block bs b) ≤ n
+block_size n bs b p h = block_length n (block bs b) (p.blocks b h)

@@ -1,3 +1,12 @@
 pub mod Entries
 pub mod Tops
 pub mod Sames
+pub mod Walks
+pub mod Costs
+pub mod Flags
+pub mod Stored
+pub mod Bounded
+pub mod Assembled
+pub mod Cuts
+pub mod Results
+pub mod Words

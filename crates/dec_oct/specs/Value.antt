@@ -30,6 +30,10 @@ decomposed n b = record { dims = n; blocks = b }
 abbrev pub whole : ℕ → Blocks → Matrix
 whole n b = assembly n b.partition b.matrices
 
+-- the value with a matrix, or Bottom
+abbrev pub octagon_of : ℕ → Option Matrix → Octagon
+octagon_of n m = record { dims = n; matrix = m }
+
 -- the value that is meant
 abbrev pub octagon : Decomposed → Octagon
 octagon v = record { dims = v.dims; matrix = option_map (whole v.dims) v.blocks }

@@ -6,10 +6,20 @@
 #![tactic(auto)]
 
 mod assembly;
+mod closing;
+mod cut;
+mod made;
+mod marks;
+mod merge;
+mod parts;
+mod reading;
 mod same;
+mod tabulate;
 #[cfg(test)]
 mod tests;
 mod value;
+mod walk;
 
 pub use memory::NoMemory;
-pub use value::DecOct;
+pub use same::same_matrix;
+pub use value::{DecOct, Parts};

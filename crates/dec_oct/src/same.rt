@@ -5,8 +5,8 @@ ghost use Rattle.oct_def.specs.Table.{at};
 use block_partition::Partition;
 use half_matrix::{HalfBuf, HalfMatrix};
 
-// Whether two lists of members are equal.
-fn same_members(a: &[u32], b: &[u32]) -> bool
+/// Whether two lists of members are equal.
+pub(crate) fn same_members(a: &[u32], b: &[u32]) -> bool
     ensures yes { result ≡ true → a.now ≡ b.now }
     ensures no { result ≡ false → a.now ≡ b.now → ⊥ }
 {
@@ -36,8 +36,8 @@ fn same_row(a: &HalfBuf, b: &HalfBuf, i: u32) -> bool
     true
 }
 
-// Whether two matrices are equal.
-fn same_matrix(a: &HalfBuf, b: &HalfBuf) -> bool
+/// Whether two matrices are equal. Each word is compared once, up to the first that differs.
+pub fn same_matrix(a: &HalfBuf, b: &HalfBuf) -> bool
     ensures yes { result ≡ true → a.now ≡ b.now }
     ensures no { result ≡ false → a.now ≡ b.now → ⊥ }
 {

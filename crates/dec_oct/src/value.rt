@@ -2,34 +2,47 @@
 ghost use Rattle.std.specs.Prelude.{◌≡◌, ℕ, ◌*◌, ◌<◌, ◌≤◌, IfOk, IfSome, IsSome, MatchOption, length, Some, None, true, false};
 ghost use Rattle.oct_def.specs.Bound.{bound_of};
 ghost use Rattle.oct_def.specs.Table.{at};
-ghost use Rattle.oct_def.specs.Octagon.{top_value, bottom_value};
+ghost use Rattle.oct_def.specs.Octagon.{top_value, bottom_value, tight_value};
 ghost use Rattle.oct_def.specs.Tight.{tight};
 ghost use Rattle.block_partition.specs.Partition.{block};
-ghost use Rattle.block_laws.specs.Assembly.{matrix};
-ghost use Rattle.dec_oct.specs.Value.{blocks_of, decomposed, octagon, whole, marked, IsKept, IsDecomposition};
+ghost use Rattle.block_laws.specs.Assembly.{matrix, assembly};
+ghost use Rattle.dec_oct.specs.Value.{blocks_of, decomposed, octagon, octagon_of, whole, marked, IsKept, IsDecomposition};
+ghost use Rattle.dec_oct.specs.Cost.{CostsAtMost, CostsAtMostOf, TellsAgainOf};
+ghost use Rattle.dec_oct.specs.Given.{IsEvenGiven, IsLooseGiven, KeepsMarksOf};
 
 use crate::assembly::entry_of;
+use crate::made::{assembled, closed_parts};
 use crate::same::same_blocks;
 use block_partition::Partition;
 use half_matrix::HalfMatrix;
 use memory::NoMemory;
+use minplus_lanes::RowCount;
 use std::alloc::Global;
 use std::marker::Model;
 use std::rc::Rc;
 
 /// Blocks with a matrix and a mark for each.
 #[derive(Drop)]
-struct Held {
-    partition: Partition,
-    matrices: Vec<HalfMatrix>,
-    settled: Vec<bool>,
+pub(crate) struct Held {
+    pub(crate) partition: Partition,
+    pub(crate) matrices: Vec<HalfMatrix>,
+    pub(crate) settled: Vec<bool>,
+}
+
+/// Blocks of variables below `dims`, which are at most 512, with a matrix and a mark for each.
+#[derive(Drop)]
+pub struct Parts {
+    pub dims: u32,
+    pub partition: Partition,
+    pub matrices: Vec<HalfMatrix>,
+    pub settled: Vec<bool>,
 }
 
 /// Bottom, or the components of a value over at most 512 variables. Other values may share the blocks.
 #[derive(Drop)]
 pub struct DecOct {
-    dims: u32,
-    held: Option<Rc<Held>>,
+    pub(crate) dims: u32,
+    pub(crate) held: Option<Rc<Held>>,
 }
 
 impl Model for DecOct {
@@ -59,8 +72,8 @@ fn largest_block(partition: &Partition) -> u32
     most
 }
 
-// The value of a decomposition.
-fn of_blocks(
+/// The value of a decomposition.
+pub(crate) fn of_blocks(
     alloc: Global,
     dims: u32,
     partition: Partition,
@@ -128,6 +141,61 @@ impl DecOct {
             dims: self.dims,
             held,
         })
+    }
+
+    /// The value whose view is the assembly of the parts, in its components. A block that splits loses its mark, and one that
+    /// doesn't is shared. Each part is walked in time quadratic in the number of its members.
+    pub fn from_parts(alloc: Global, parts: Parts) -> Result<DecOct, NoMemory>
+        requires few { parts.dims ≤ 512 }
+        requires given { IsEvenGiven parts.dims (blocks_of parts.partition parts.matrices.items parts.settled.items) }
+        ensures value { IfOk result (λ v. octagon v ≡ octagon_of parts.dims (Some (assembly parts.dims parts.partition parts.matrices.items))) }
+        ensures marks { IfOk result (λ v. KeepsMarksOf (blocks_of parts.partition parts.matrices.items parts.settled.items) v.blocks) }
+    {
+        let dims = parts.dims;
+        let given = Held {
+            partition: parts.partition,
+            matrices: parts.matrices,
+            settled: parts.settled,
+        };
+        let v = assembled(alloc, dims, &given)?;
+        Ok(v)
+    }
+
+    /// The tight closure of the assembly of the parts. Its blocks are the components, marked exactly where the tight closure
+    /// gives their matrix again. It takes time cubic in the size of each part without a mark and of each new block.
+    pub fn tight_of(alloc: Global, parts: Parts, count: &mut RowCount) -> Result<DecOct, NoMemory>
+        requires few { parts.dims ≤ 512 }
+        requires given { IsLooseGiven parts.dims (blocks_of parts.partition parts.matrices.items parts.settled.items) }
+        ensures value { IfOk result (λ v. octagon v ≡ octagon_of parts.dims (tight (assembly parts.dims parts.partition parts.matrices.items))) }
+        ensures marks { IfOk result (λ v. TellsAgainOf v.blocks) }
+        ensures rises { count.old ≤ count.new }
+        ensures count { IfOk result (λ v. CostsAtMost (blocks_of parts.partition parts.matrices.items parts.settled.items) v.blocks count.old count.new) }
+    {
+        let dims = parts.dims;
+        let given = Held {
+            partition: parts.partition,
+            matrices: parts.matrices,
+            settled: parts.settled,
+        };
+        let v = closed_parts(alloc, dims, &given, count)?;
+        Ok(v)
+    }
+
+    /// The tight closure. A block of the result is marked exactly where its tight closure is its matrix again. Marked blocks
+    /// are left as they are; the others are closed, and those of variables with a bound are merged.
+    pub fn close(&self, alloc: Global, count: &mut RowCount) -> Result<DecOct, NoMemory>
+        ensures value { IfOk result (λ v. octagon v ≡ tight_value (octagon self.now)) }
+        ensures marks { IfOk result (λ v. TellsAgainOf v.blocks) }
+        ensures rises { count.old ≤ count.new }
+        ensures count { IfOk result (λ v. CostsAtMostOf self.now.blocks v.blocks count.old count.new) }
+    {
+        match &self.held {
+            None => Ok(DecOct::bottom(self.dims)),
+            Some(h) => {
+                let v = closed_parts(alloc, self.dims, &**h, count)?;
+                Ok(v)
+            }
+        }
     }
 
     /// The number of dimensions, of Bottom too.

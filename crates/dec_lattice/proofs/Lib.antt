@@ -1,0 +1,7 @@
+pub mod Rows
+pub mod Parts
+pub mod Overs
+pub mod Coarsers
+pub mod Marked
+pub mod Values
+pub mod Single

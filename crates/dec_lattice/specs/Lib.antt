@@ -1,0 +1,4 @@
+pub mod Operation
+pub mod Over
+pub mod Marks
+pub mod Coarser
