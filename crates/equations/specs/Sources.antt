@@ -1,7 +1,8 @@
 -- What the value of a point is computed from.
-use Rattle.std.specs.Prelude.{ℕ, nat_eq, List, [], ◌∷◌, ◌++◌, length, if◌then◌else◌}
-use Rattle.std.specs.List.{flat_map, range_with_len}
-use Rattle.spl_core.specs.Graph.{Move, skips, assigns, havocs, tests, calls, starts, Graph, proc_of, arc_at, main_of, owner_of}
+use Rattle.std.specs.Prelude.{◌≡◌, ℕ, ◌<◌, Bool, true, nat_eq, List, [], ◌∷◌, ◌++◌, length, if◌then◌else◌}
+use Rattle.std.specs.List.{list_any, filter, flat_map, range_with_len}
+use Rattle.spl_core.specs.Parts.{Parts, edge_at, owner_of as owner_in}
+use Rattle.spl_core.specs.Graph.{move_of, Move, skips, assigns, havocs, tests, calls, starts, Graph, proc_of, arc_at, main_of, owner_of}
 use Rattle.call_graph.specs.Reach.{is_call_of}
 use Rattle.call_graph.specs.Order.{is_entry}
 use Rattle.equations.specs.declared.source.Source.{Source}
@@ -34,6 +35,13 @@ sources g x =
     if is_entry g x then source_at_start g x ++ flat_map (source_into_entry g (owner_of g x)) (range_with_len 0 (length g.arcs))
     else flat_map (source_into_point g x) (range_with_len 0 (length g.arcs))
 
+-- a source of a point of a core: it names an edge of the core, into the point or, for an entry, a call of the point's procedure
+abbrev pub SourceFits : Parts → ℕ → Source → Type 0
+SourceFits c p Always = Unit {0}
+SourceFits c p (Flow e) = (e < length c.edges) × ((edge_at c e).target ≡ p)
+SourceFits c p (Enter e) = (e < length c.edges) × (is_call_of (owner_in c p) (move_of c (edge_at c e).action) ≡ true)
+SourceFits c p (Back e) = (e < length c.edges) × ((edge_at c e).target ≡ p)
+
 -- ---- the points that are read
 
 abbrev pub exit_of : Graph → Move → ℕ → ℕ
@@ -53,3 +61,16 @@ reads_of g (Back e) = (arc_at g e).source ∷ exit_of g (arc_at g e).move (arc_a
 
 unfoldable pub reads_at : Graph → ℕ → List ℕ
 reads_at g p = flat_map (reads_of g) (sources g p)
+
+-- ---- the points that read
+
+-- a source reads a point, and a point reads another by one of its sources
+abbrev pub is_read_by : Graph → ℕ → Source → Bool
+is_read_by g p s = list_any (nat_eq p) (reads_of g s)
+
+abbrev pub is_reader : Graph → ℕ → ℕ → Bool
+is_reader g p q = list_any (is_read_by g p) (sources g q)
+
+-- the points that read a point, in rising order
+unfoldable pub readers : Graph → ℕ → List ℕ
+readers g p = filter (is_reader g p) (range_with_len 0 (length g.owners))

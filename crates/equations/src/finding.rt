@@ -1,27 +1,39 @@
-//! The sources of every point of a core, found once.
+//! The sources of every point of a core and the points that read it, found once.
 ghost use Rattle.std.specs.Prelude.{◌≡◌, ◌<◌, ◌++◌, length, map, IfOk};
 ghost use Rattle.std.specs.List.{flat_map, range_with_len};
 ghost use Rattle.spl_core.specs.Parts.{edge_at};
 ghost use Rattle.spl_core.specs.Graph.{graph_of, move_of};
 ghost use Rattle.call_graph.specs.Reach.{is_call_of};
 ghost use Rattle.equations.specs.Sources.{source_by, source_at_start, source_into_entry, source_into_point, sources};
+ghost use Rattle.equations.specs.Table.{table_of};
 
+use crate::reading::reader_lists;
 use crate::source::Source;
 use crate::table::Sources;
 use memory::NoMemory;
 use spl_core::{Action, Core};
 use std::alloc::Global;
 
-/// The sources of all points of a core. It reads all edges once for each point.
+/// The sources of all points of a core, and the readers. It reads all edges, and the sources of all points, once for each
+/// point.
 pub fn sources(alloc: Global, core: &Core) -> Result<Sources, NoMemory>
-    ensures { IfOk result (λ s. s ≡ map (sources (graph_of core.now)) (range_with_len 0 (length core.now.owners))) }
+    ensures { IfOk result (λ s. s ≡ table_of (graph_of core.now)) }
+{
+    let lists = source_lists(alloc, core)?;
+    let readers = reader_lists(alloc, core, &lists)?;
+    Ok(Sources { lists, readers })
+}
+
+// The sources of each point.
+fn source_lists(alloc: Global, core: &Core) -> Result<Vec<Vec<Source>>, NoMemory>
+    ensures { IfOk result (λ r. map (λ v. v.items) r.items ≡ map (sources (graph_of core.now)) (range_with_len 0 (length core.now.owners))) }
 {
     let mut lists = Vec::new(alloc);
     for x in 0..core.points() {
         let list = sources_at(alloc, core, x)?;
         lists.push(list)?;
     }
-    Ok(Sources { lists })
+    Ok(lists)
 }
 
 // The sources of one point.

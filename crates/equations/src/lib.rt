@@ -3,6 +3,7 @@
 
 mod finding;
 mod laws;
+mod reading;
 mod source;
 mod table;
 

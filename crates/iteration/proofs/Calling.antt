@@ -1,7 +1,7 @@
 -- Calls and returns in the code, and what is read at a point.
-use Rattle.std.proofs.Common.{◌≡◌, ℕ, ◌+◌, ◌<◌, ◌≤◌, Bool, true, false, cond, List, length, get_or, sym, ap, subst, arith, ◌∙◌}
-use Rattle.std.proofs.lemmas.List.{get_or-map, length-map}
-use Rattle.oct_def.specs.Octagon.{Octagon, tight_value}
+use Rattle.std.proofs.Common.{◌≡◌, ℕ, ◌+◌, ◌<◌, ◌≤◌, List, length, get_or, sym, ap, subst, arith, ◌∙◌}
+use Rattle.std.proofs.lemmas.List.{get_or-map}
+use Rattle.oct_def.specs.Octagon.{Octagon, bottom_value}
 use Rattle.spl_core.specs.declared.parts.Action.{Action}
 use Rattle.spl_core.specs.declared.parts.Action.TheVariants as action
 use Rattle.spl_core.specs.declared.parts.Proc.{Proc}
@@ -11,14 +11,13 @@ use Rattle.spl_core.specs.Facts.{IsCore, ActionFits, CallFits}
 use Rattle.spl_core.specs.Graph.{graph_of, move_of}
 use Rattle.spl_core.proofs.Graphs.{span_length}
 use Rattle.transfer_def.specs.Back.{back_value}
-use Rattle.call_graph.specs.Order.{is_cut}
 use Rattle.equations.specs.Equations.{returned_by}
 use Rattle.iteration.specs.declared.slot.Slot.{Slot}
-use Rattle.iteration.specs.Rounds.{Cell, cell_at, no_cell}
-use Rattle.iteration.specs.Solved.{values_in}
+use Rattle.iteration.specs.Rounds.{Cell}
 use Rattle.iteration.specs.Ends.{AreCells}
-use Rattle.iteration.specs.Slots.{cell_of, cells_of}
+use Rattle.iteration.specs.Slots.{seen_of, seen_by, seen_at}
 use Rattle.iteration.specs.Plan.{reading}
+use Rattle.iteration.specs.Marks.{AreSeen}
 use Rattle.iteration.proofs.Sized.{read-dims, points, proc-dims}
 
 pub return_call : (c : Parts) (read : ℕ → Octagon) (a : Action) (callee : ℕ) (args targets : Span) (v exit r : Octagon) (items outs : List ℕ) (q : Proc) → a ≡ action.Call callee args targets
@@ -47,23 +46,18 @@ outputs_inside c p a callee args targets cells items q exit core sized f e i is 
     let outs : q.outputs ≡ (proc_at c callee).outputs = ap (λ (y : Proc). y.outputs) is in
     omega (arith, count, fit.arguments, outs, dims, row.within)
 
+-- the callee's exit is a point
+pub exit_point : (c : Parts) (p : Proc) (a : Action) (callee : ℕ) (args targets : Span) (q : Proc) → IsCore c → ActionFits c p a → a ≡ action.Call callee args targets → q ≡ proc_at c callee → q.exit < length c.owners
+exit_point c p a callee args targets q core f e is =
+    let fit : CallFits c p callee args targets = subst (ActionFits c p) e f in
+    let inside : callee < length c.procs = omega (arith, fit.callee_in_range) in
+    let row = core.procs callee no_proc inside in
+    subst (λ (r : Proc). r.exit < length c.owners) (sym is) row.exit
+
 -- ---- reading
 
-pub slots_long : {V : Type 0} → (meaning : V → Octagon) (c : Parts) (slots : List (Slot V)) → AreCells (graph_of c) (cells_of meaning slots) → length slots ≡ length c.owners
-slots_long meaning c slots h = sym (length-map slots (cell_of meaning)) ∙ h.points ∙ points c
+pub seen_slot : {V : Type 0} → (meaning : V → Octagon) (slots : List (Slot V)) (p : ℕ) (s : Slot V) → p < length slots → s ≡ get_or slots p s → meaning (seen_of s) ≡ seen_at meaning slots p
+seen_slot meaning slots p s l e = sym (get_or-map (seen_by meaning) slots p s (bottom_value 0) l ∙ ap (seen_by meaning) (sym e))
 
-stored : {V : Type 0} → (meaning : V → Octagon) (slots : List (Slot V)) (p : ℕ) (s : Slot V) → p < length slots → s ≡ get_or slots p s → (cell_at (cells_of meaning slots) p).value ≡ meaning s.value
-stored {V} meaning slots p s l e =
-    ap (λ (x : Cell). x.value) (get_or-map (cell_of meaning) slots p s no_cell l) ∙ sym (ap (λ (x : Slot V). meaning x.value) e)
-
-pub read_closed : {V : Type 0} → (meaning : V → Octagon) (c : Parts) (slots : List (Slot V)) (p : ℕ) (s : Slot V) (v : Octagon) → p < length slots → s ≡ get_or slots p s
-    → true ≡ is_cut (graph_of c) p → v ≡ tight_value (meaning s.value) → v ≡ reading c (cells_of meaning slots) p
-read_closed meaning c slots p s v l e t h =
-    h ∙ ap tight_value (sym (stored meaning slots p s l e))
-    ∙ ap (λ (b : Bool). cond b (tight_value (values_in (cells_of meaning slots) p)) (values_in (cells_of meaning slots) p)) t
-
-pub read_stored : {V : Type 0} → (meaning : V → Octagon) (c : Parts) (slots : List (Slot V)) (p : ℕ) (s : Slot V) (v : Octagon) → p < length slots → s ≡ get_or slots p s
-    → false ≡ is_cut (graph_of c) p → v ≡ meaning s.value → v ≡ reading c (cells_of meaning slots) p
-read_stored meaning c slots p s v l e t h =
-    h ∙ sym (stored meaning slots p s l e)
-    ∙ ap (λ (b : Bool). cond b (tight_value (values_in (cells_of meaning slots) p)) (values_in (cells_of meaning slots) p)) t
+pub seen_read : (c : Parts) (cells : List Cell) (seens : List Octagon) (p : ℕ) (v : Octagon) → AreSeen c cells seens → p < length c.owners → v ≡ get_or seens p (bottom_value 0) → v ≡ reading c cells p
+seen_read c cells seens p v seen l h = h ∙ seen.read p l

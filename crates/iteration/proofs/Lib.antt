@@ -1,4 +1,5 @@
 pub mod Exact
+pub mod Again
 pub mod Skipping
 pub mod Heights
 pub mod Sources
@@ -13,6 +14,9 @@ pub mod Sized
 pub mod Fitting
 pub mod Stepped
 pub mod Visited
+pub mod Marks
+pub mod Stored
+pub mod Beginning
 pub mod Rounding
 pub mod Capacity
 pub mod Solving

@@ -17,16 +17,16 @@ use Rattle.call_graph.specs.Reach.{is_call_of}
 use Rattle.call_graph.specs.Order.{is_cut}
 use Rattle.equations.specs.declared.source.Source.{Source}
 use Rattle.equations.specs.declared.source.Source.TheVariants.{Always, Flow, Enter, Back}
-use Rattle.equations.specs.Sources.{sources}
+use Rattle.equations.specs.Sources.{SourceFits, sources}
 use Rattle.equations.specs.Equations.{entered_by, returned_by, brought, with_source, equation}
 use Rattle.iteration.specs.Rounds.{Cell, cell_at, no_cell, ascended, descended, stepped, visit}
 use Rattle.iteration.specs.Solved.{source_in}
 use Rattle.iteration.specs.Ends.{AreCells}
-use Rattle.iteration.specs.Plan.{SourceFits, reading, moving}
+use Rattle.iteration.specs.Plan.{reading, moving}
 
 -- ---- what is read
 
-tight-dims : (v : Octagon) → (tight_value v).dims ≡ v.dims
+pub tight-dims : (v : Octagon) → (tight_value v).dims ≡ v.dims
 unfolding tight_value
 tight-dims v = refl
 

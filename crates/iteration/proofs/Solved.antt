@@ -88,7 +88,7 @@ pub visit-settled : (next : ℕ → List Cell → Cell) (p : ℕ) (cells : List 
 visit-settled next p cells e = ap (set cells p) e ∙ set-get_or cells p no_cell
 
 -- after a round that changes no value, a visit of any of its points changes nothing
-all-quiet : (g : Graph) (cut : ℕ → Bool) (rest : List ℕ) (a : List Cell) → changing (rising g cut) rest a ≡ false → (p : ℕ) → Contains rest p → rising g cut p a ≡ cell_at a p
+pub all-quiet : (g : Graph) (cut : ℕ → Bool) (rest : List ℕ) (a : List Cell) → changing (rising g cut) rest a ≡ false → (p : ℕ) → Contains rest p → rising g cut p a ≡ cell_at a p
 all-quiet g cut [] a e p h = absurd (omega (arith, h.1))
 all-quiet g cut (q ∷ rest) a e p h = by h.0 h.1 h.2 (all-quiet g cut rest a later p)
   where

@@ -13,7 +13,7 @@ use Rattle.call_graph.specs.Order.{order, is_cut}
 use Rattle.iteration.specs.declared.slot.Slot.{Slot}
 use Rattle.iteration.specs.Rounds.{Cell, cell_at, no_cell, Ascended, ascended_in, ascent, repeated}
 use Rattle.iteration.specs.Solved.{rising, falling, start_cell, start, ascent_of, rounds_of, solved, stored_of}
-use Rattle.iteration.specs.Slots.{cell_of, cells_of}
+use Rattle.iteration.specs.Slots.{cell_of, cells_of, seen_by, seens_of}
 use Rattle.iteration.specs.Solution.{Solution, value_of, stored_in, IsSolution}
 use Rattle.iteration.proofs.Headline.{are_solved}
 use Rattle.iteration.proofs.Capacity.{fuel_is_enough}
@@ -32,6 +32,16 @@ start_more {V = V} m c delay p old new slot l e n v d =
     ∙ ap (λ (k : ℕ). map (start_cell (graph_of c) delay) (take p c.owners) ++ record { value = bottom_value (proc_at c (owner_of c p)).dims; left = k } ∷ []) d
     ∙ sym (map-append (start_cell (graph_of c) delay) (take p c.owners) (get_or c.owners p 0 ∷ []))
     ∙ ap (map (start_cell (graph_of c) delay)) (sym (take_more c.owners p 0 l))
+
+-- a slot at which the stored value is read
+pub seens_more : {V : Type 0} → (m : V → Octagon) (old new : List (Slot V)) (slot : Slot V) → seens_of m old ≡ map value_of (cells_of m old) → new ≡ old ++ slot ∷ [] → seen_by m slot ≡ m slot.value → seens_of m new ≡ map value_of (cells_of m new)
+seens_more {V = V} m old new slot e n same =
+    ap (λ (xs : List (Slot V)). seens_of m xs) n ∙ map-append (seen_by m) old (slot ∷ [])
+    ∙ ap (λ (os : List Octagon). os ++ seen_by m slot ∷ []) e
+    ∙ ap (λ (o : Octagon). map value_of (cells_of m old) ++ o ∷ []) same
+    ∙ sym (map-append value_of (cells_of m old) (cell_of m slot ∷ []))
+    ∙ ap (map value_of) (sym (map-append (cell_of m) old (slot ∷ [])))
+    ∙ ap (λ (xs : List (Slot V)). map value_of (cells_of m xs)) (sym n)
 
 pub start_done : (c : Parts) (delay p : ℕ) (cells : List Cell) → length c.owners ≤ p → cells ≡ map (start_cell (graph_of c) delay) (take p c.owners) → cells ≡ start (graph_of c) delay
 unfolding start graph_of

@@ -1,8 +1,7 @@
 -- What a point is computed from is a value, and depends on what it reads alone.
-use Rattle.std.proofs.Common.{◌≡◌, ℕ, zero, suc, ◌+◌, ◌<◌, ◌++◌, Bool, true, false, cond, List, [], ◌∷◌, length, get_or, refl, sym, ap, subst, arith, ◌∙◌, nat_eq, eqb-true}
+use Rattle.std.proofs.Common.{◌≡◌, ℕ, zero, suc, ◌<◌, ◌++◌, Bool, true, false, cond, List, [], ◌∷◌, length, get_or, refl, sym, ap, subst, arith, ◌∙◌, nat_eq, eqb-true}
 use Rattle.std.specs.List.{All, fold, flat_map, range_with_len}
 use Rattle.std.proofs.lemmas.Bool.{false≢true}
-use Rattle.std.proofs.lemmas.List.FromFn.{length-range_with_len, get_or-range_with_len}
 use Rattle.oct_def.specs.Octagon.{Octagon, IsOctagon, bottom_value, top_value, tight_value, join_value}
 use Rattle.oct_def.proofs.Lattice.{octagon-join, octagon-tight, octagon-top}
 use Rattle.spl_core.specs.declared.parts.Proc.{Proc}
@@ -16,6 +15,7 @@ use Rattle.spl_core.specs.Graph.{Move, skips, assigns, havocs, tests, calls, sta
 use Rattle.equations.proofs.Facts.{Known}
 use Rattle.spl_core.specs.GraphFacts.{MoveFits}
 use Rattle.equations.specs.Equations.{entered_by, returned_by, brought, with_source, equation, read}
+use Rattle.equations.proofs.Fitting.{AllOf, all-append, all-edges}
 use Rattle.equations.specs.declared.source.Source.{Source}
 use Rattle.equations.specs.declared.source.Source.TheVariants as source
 use Rattle.call_graph.specs.Reach.{is_call_of}
@@ -60,11 +60,12 @@ folded-alike g r t p (o ∷ os) v h =
     (brought-alike g r t p o (all-left (λ (i : ℕ). r i ≡ t i) (reads_of g o) (flat_map (reads_of g) os) h))
     ∙ folded-alike g r t p os (with_source g t p v o) (all-right (λ (i : ℕ). r i ≡ t i) (reads_of g o) (flat_map (reads_of g) os) h)
 
-pub source-alike : (g : Graph) (cut : ℕ → Bool) (p : ℕ) (a b : List Cell) → All (λ (i : ℕ). (cell_at b i).value ≡ (cell_at a i).value) (reads_at g p) → source_in g cut p b ≡ source_in g cut p a
+pub source-read : (g : Graph) (cut : ℕ → Bool) (p : ℕ) (a b : List Cell) → All (λ (i : ℕ). read cut (values_in b) i ≡ read cut (values_in a) i) (reads_at g p) → source_in g cut p b ≡ source_in g cut p a
 unfolding source_in equation reads_at
-source-alike g cut p a b h =
-    folded-alike g (read cut (values_in b)) (read cut (values_in a)) p (sources g p) (bottom_value (dims_at g p))
-    (λ k d l. ap (λ (o : Octagon). cond (cut (get_or (flat_map (reads_of g) (sources g p)) k d)) (tight_value o) o) (h k d l))
+source-read g cut p a b h = folded-alike g (read cut (values_in b)) (read cut (values_in a)) p (sources g p) (bottom_value (dims_at g p)) h
+
+pub source-alike : (g : Graph) (cut : ℕ → Bool) (p : ℕ) (a b : List Cell) → All (λ (i : ℕ). (cell_at b i).value ≡ (cell_at a i).value) (reads_at g p) → source_in g cut p b ≡ source_in g cut p a
+source-alike g cut p a b h = source-read g cut p a b (λ k d l. ap (λ (o : Octagon). cond (cut (get_or (reads_at g p) k d)) (tight_value o) o) (h k d l))
 
 -- ---- what is brought is a value with the point's dimensions
 
@@ -105,25 +106,10 @@ fit-entered g n q (starts copies) v t h = absurd (false≢true t)
 
 -- ---- over all sources of a point
 
-abbrev AllFit : Graph → (ℕ → Octagon) → ℕ → List Source → Type 0
-AllFit g r p [] = Unit {0}
-AllFit g r p (o ∷ os) = IsFit (dims_at g p) (brought g r p o) × AllFit g r p os
+abbrev Fits : Graph → (ℕ → Octagon) → ℕ → Source → Type 0
+Fits g r p o = IsFit (dims_at g p) (brought g r p o)
 
-fit-append : (g : Graph) (r : ℕ → Octagon) (p : ℕ) (xs ys : List Source) → AllFit g r p xs → AllFit g r p ys → AllFit g r p (xs ++ ys)
-fit-append g r p [] ys h k = k
-fit-append g r p (x ∷ xs) ys h k = (h.0, fit-append g r p xs ys h.1 k)
-
-fit-flat_map : (g : Graph) (r : ℕ → Octagon) (p : ℕ) (f : ℕ → List Source) (es : List ℕ) → ((i : ℕ) → i < length es → AllFit g r p (f (get_or es i 0))) → AllFit g r p (flat_map f es)
-fit-flat_map g r p f [] h = tt
-fit-flat_map g r p f (e ∷ es) h = fit-append g r p (f e) (flat_map f es) (h 0 (omega arith)) (fit-flat_map g r p f es (λ i l. h (suc i) (omega arith)))
-
-fit-edges : (g : Graph) (r : ℕ → Octagon) (p : ℕ) (f : ℕ → List Source) (n : ℕ) → ((e : ℕ) → e < n → AllFit g r p (f e)) → AllFit g r p (flat_map f (range_with_len 0 n))
-fit-edges g r p f n h = fit-flat_map g r p f (range_with_len 0 n) (λ i l.
-    let inside : i < n = omega (arith, length-range_with_len 0 n) in
-    let plain : 0 + i ≡ i = omega arith in
-    subst (λ (k : ℕ). AllFit g r p (f k)) (sym (get_or-range_with_len 0 n i 0 inside ∙ plain)) (h i inside))
-
-fit-fold : (g : Graph) (r : ℕ → Octagon) (p : ℕ) (os : List Source) (v : Octagon) → IsFit (dims_at g p) v → AllFit g r p os → IsOctagon (fold (with_source g r p) v os)
+fit-fold : (g : Graph) (r : ℕ → Octagon) (p : ℕ) (os : List Source) (v : Octagon) → IsFit (dims_at g p) v → AllOf (Fits g r p) os → IsOctagon (fold (with_source g r p) v os)
 unfolding join_value
 fit-fold g r p [] v h all = h.octagon
 fit-fold g r p (o ∷ os) v h all =
@@ -134,7 +120,7 @@ fit-fold g r p (o ∷ os) v h all =
 abbrev Readable : Graph → (ℕ → Octagon) → Type 0
 Readable g r = (q : ℕ) → q < length g.owners → IsFit (dims_at g q) (r q)
 
-fit-into_point : (g : Graph) (r : ℕ → Octagon) (p e : ℕ) → Known g → Readable g r → e < length g.arcs → AllFit g r p (source_into_point g p e)
+fit-into_point : (g : Graph) (r : ℕ → Octagon) (p e : ℕ) → Known g → Readable g r → e < length g.arcs → AllOf (Fits g r p) (source_into_point g p e)
 fit-into_point g r p e is h l = by (nat_eq (arc_at g e).target p) refl
   where
     here : IsFit (dims_at g (arc_at g e).source) (r (arc_at g e).source)
@@ -161,33 +147,33 @@ fit-into_point g r p e is h l = by (nat_eq (arc_at g e).target p) refl
     one (calls callee args targets) a b = b
     one (starts pairs) a b = a
 
-    by : (t : Bool) → nat_eq (arc_at g e).target p ≡ t → AllFit g r p (cond t (source_by e (arc_at g e).move ∷ []) [])
+    by : (t : Bool) → nat_eq (arc_at g e).target p ≡ t → AllOf (Fits g r p) (cond t (source_by e (arc_at g e).move ∷ []) [])
     by true t = let q = eqb-true (arc_at g e).target p t in (one (arc_at g e).move (flow q) (back q), tt)
     by false t = tt
 
-fit-into_entry : (g : Graph) (r : ℕ → Octagon) (p e : ℕ) → Known g → Readable g r → e < length g.arcs → AllFit g r p (source_into_entry g (owner_of g p) e)
+fit-into_entry : (g : Graph) (r : ℕ → Octagon) (p e : ℕ) → Known g → Readable g r → e < length g.arcs → AllOf (Fits g r p) (source_into_entry g (owner_of g p) e)
 fit-into_entry g r p e is h l = by (is_call_of (owner_of g p) (arc_at g e).move) refl
   where
-    by : (t : Bool) → is_call_of (owner_of g p) (arc_at g e).move ≡ t → AllFit g r p (cond t (source.Enter e ∷ []) [])
+    by : (t : Bool) → is_call_of (owner_of g p) (arc_at g e).move ≡ t → AllOf (Fits g r p) (cond t (source.Enter e ∷ []) [])
     by true t = (fit-entered g (dims_at g (arc_at g e).source) (owner_of g p) (arc_at g e).move (r (arc_at g e).source) t (h (arc_at g e).source (is.source e l)), tt)
     by false t = tt
 
-fit-start_of : (g : Graph) (r : ℕ → Octagon) (p : ℕ) → AllFit g r p (source_at_start g p)
+fit-start_of : (g : Graph) (r : ℕ → Octagon) (p : ℕ) → AllOf (Fits g r p) (source_at_start g p)
 unfolding top_value
 fit-start_of g r p = by (nat_eq p (proc_of g (main_of g)).entry)
   where
-    by : (t : Bool) → AllFit g r p (cond t (source.Always ∷ []) [])
+    by : (t : Bool) → AllOf (Fits g r p) (cond t (source.Always ∷ []) [])
     by true = (record { octagon = octagon-top (dims_at g p); dims = refl }, tt)
     by false = tt
 
-fit-origins : (g : Graph) (r : ℕ → Octagon) (p : ℕ) → Known g → Readable g r → AllFit g r p (sources g p)
+fit-origins : (g : Graph) (r : ℕ → Octagon) (p : ℕ) → Known g → Readable g r → AllOf (Fits g r p) (sources g p)
 unfolding sources
 fit-origins g r p is h = by (is_entry g p)
   where
-    by : (t : Bool) → AllFit g r p (cond t (source_at_start g p ++ flat_map (source_into_entry g (owner_of g p)) (range_with_len 0 (length g.arcs))) (flat_map (source_into_point g p) (range_with_len 0 (length g.arcs))))
-    by true = fit-append g r p (source_at_start g p) (flat_map (source_into_entry g (owner_of g p)) (range_with_len 0 (length g.arcs))) (fit-start_of g r p)
-        (fit-edges g r p (source_into_entry g (owner_of g p)) (length g.arcs) (λ e l. fit-into_entry g r p e is h l))
-    by false = fit-edges g r p (source_into_point g p) (length g.arcs) (λ e l. fit-into_point g r p e is h l)
+    by : (t : Bool) → AllOf (Fits g r p) (cond t (source_at_start g p ++ flat_map (source_into_entry g (owner_of g p)) (range_with_len 0 (length g.arcs))) (flat_map (source_into_point g p) (range_with_len 0 (length g.arcs))))
+    by true = all-append (Fits g r p) (source_at_start g p) (flat_map (source_into_entry g (owner_of g p)) (range_with_len 0 (length g.arcs))) (fit-start_of g r p)
+        (all-edges (Fits g r p) (source_into_entry g (owner_of g p)) (length g.arcs) (λ e l. fit-into_entry g r p e is h l))
+    by false = all-edges (Fits g r p) (source_into_point g p) (length g.arcs) (λ e l. fit-into_point g r p e is h l)
 
 fit-read : (g : Graph) (cut : ℕ → Bool) (cells : List Cell) → AreGood g cells → Readable g (read cut (values_in cells))
 unfolding tight_value

@@ -13,7 +13,7 @@ use Rattle.iteration.specs.Height.{height, height_at, total}
 use Rattle.iteration.specs.Solved.{start_cell, start, rising, System, share, capacity}
 use Rattle.iteration.specs.Ends.{EndsIn, IsOrdered, AreGood}
 
-start-at : (g : Graph) (delay p : ℕ) → p < length g.owners → cell_at (start g delay) p ≡ start_cell g delay (get_or g.owners p 0)
+pub start-at : (g : Graph) (delay p : ℕ) → p < length g.owners → cell_at (start g delay) p ≡ start_cell g delay (get_or g.owners p 0)
 unfolding start
 start-at g delay p lt = get_or-map (start_cell g delay) g.owners p 0 no_cell lt
 

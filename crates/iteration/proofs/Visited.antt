@@ -1,6 +1,6 @@
 -- What a visit in the code leaves, over plain variables.
 use Rattle.std.proofs.Common.{◌≡◌, ℕ, ◌-◌, ◌<◌, Bool, true, false, cond, List, length, get_or, set, sym, ap, ◌∙◌, arith}
-use Rattle.std.proofs.lemmas.List.{get_or-map, length-map, map-set}
+use Rattle.std.proofs.lemmas.List.{get_or-map, length-map}
 use Rattle.oct_def.specs.Octagon.{Octagon}
 use Rattle.iteration.specs.declared.slot.Slot.{Slot}
 use Rattle.iteration.specs.Rounds.{Cell, cell_at, no_cell, same_value, stepped, visit}
@@ -48,11 +48,11 @@ cell-same s down cells p e = stepped-same down (is_cut (graph_of s) p) (cell_at 
 pub cells-same : (s : Parts) (down : Bool) (cells : List Cell) (p : ℕ) → same_value (moving s down p cells).value (cell_at cells p).value ≡ true → cells ≡ visit (moving s down) p cells
 cells-same s down cells p e = sym (visit-settled (moving s down) p cells (cell-same s down cells p e))
 
-pub cells-changed : {V : Type 0} → (m : V → Octagon) (s : Parts) (down : Bool) (slots : List (Slot V)) (p : ℕ) (slot : Slot V) (cut : Bool) (value : V) (left : ℕ) → AreCells (graph_of s) (cells_of m slots) → p < length (graph_of s).owners → slot ≡ get_or slots p slot
-    → cut ≡ is_cut (graph_of s) p → m value ≡ (moving s down p (cells_of m slots)).value → same_value (moving s down p (cells_of m slots)).value (cell_at (cells_of m slots) p).value ≡ false → left ≡ cond down slot.left (cond cut (slot.left - 1) slot.left)
-    → cells_of m (set slots p (record { value = value; left = left })) ≡ visit (moving s down) p (cells_of m slots)
-cells-changed m s down slots p slot cut value left sized lt read b v e l =
-    map-set (cell_of m) slots p (record { value = value; left = left })
+pub cells-changed : {V : Type 0} → (m : V → Octagon) (s : Parts) (down : Bool) (slots : List (Slot V)) (p : ℕ) (slot : Slot V) (cut : Bool) (value : Octagon) (left : ℕ) (new : List Cell) → AreCells (graph_of s) (cells_of m slots) → p < length (graph_of s).owners → slot ≡ get_or slots p slot
+    → cut ≡ is_cut (graph_of s) p → value ≡ (moving s down p (cells_of m slots)).value → same_value (moving s down p (cells_of m slots)).value (cell_at (cells_of m slots) p).value ≡ false → left ≡ cond down slot.left (cond cut (slot.left - 1) slot.left)
+    → new ≡ set (cells_of m slots) p (record { value = value; left = left }) → new ≡ visit (moving s down) p (cells_of m slots)
+cells-changed m s down slots p slot cut value left new sized lt read b v e l is =
+    is
     ∙ ap (λ (c : Cell). set (cells_of m slots) p c)
     (ap (λ (o : Octagon). record { value = o; left = left }) v ∙ ap (λ (n : ℕ). record { value = (moving s down p (cells_of m slots)).value; left = n })
     (l ∙ ap (λ (t : Bool). cond down slot.left (cond t (slot.left - 1) slot.left)) b

@@ -1,12 +1,11 @@
 //! The analysis of a core.
-ghost use Rattle.std.specs.Prelude.{◌≡◌, ◌≤◌, length, map, IfOk};
-ghost use Rattle.std.specs.List.{range_with_len};
+ghost use Rattle.std.specs.Prelude.{◌≡◌, ◌≤◌, map, IfOk};
 ghost use Rattle.spl_core.specs.Graph.{graph_of};
-ghost use Rattle.call_graph.specs.Order.{is_cut};
-ghost use Rattle.iteration.specs.Slots.{cells_of};
+ghost use Rattle.iteration.specs.Slots.{cells_of, seens_of};
 ghost use Rattle.iteration.specs.Solution.{value_of, IsSolution};
 ghost use Rattle.iteration.specs.Solved.{start};
 
+use crate::marking::{cut_marks, first_marks};
 use crate::rounds::{self, ascend};
 use crate::slot::Slot;
 use crate::solution::Solution;
@@ -18,7 +17,7 @@ use memory::NoMemory;
 use spl_core::Core;
 use std::alloc::Global;
 
-/// The slots at the start: Bottom at every point, and all joins left.
+/// The slots at the start: Bottom at every point, which is closed, and all joins left.
 fn start<D: Domain>(
     alloc: Global,
     dom: &mut D,
@@ -26,29 +25,23 @@ fn start<D: Domain>(
     delay: u32,
 ) -> Result<Vec<Slot<D::V>>, NoMemory>
     ensures cells { IfOk result (λ r. cells_of D.meaning r.items ≡ start (graph_of core.now) delay) }
+    ensures seens { IfOk result (λ r. seens_of D.meaning r.items ≡ map value_of (cells_of D.meaning r.items)) }
     ensures work { D.work dom.old ≤ D.work dom.new }
 {
     let mut slots = Vec::new(alloc);
     for p in 0..core.points() {
         let value = dom.bottom(core.proc_at(core.owner(p)).dims);
-        slots.push(Slot { value, left: delay })?;
+        slots.push(Slot {
+            value,
+            left: delay,
+            closed: None,
+        })?;
     }
     Ok(slots)
 }
 
 // No core's ascent takes more rounds: 2C + 2 for 4096 cut points over 128 dimensions and a delay of 1000.
 const MOST_ROUNDS: u64 = 545079298;
-
-/// Which points are cut points.
-fn cut_points(alloc: Global, system: &System) -> Result<Vec<bool>, NoMemory>
-    ensures { IfOk result (λ r. r.items ≡ map (is_cut (graph_of system.now)) (range_with_len 0 (length system.now.owners))) }
-{
-    let mut cuts = Vec::new(alloc);
-    for p in 0..system.core().points() {
-        cuts.push(system.is_cut(p))?;
-    }
-    Ok(cuts)
-}
 
 /// The stored values of the slots, shared.
 fn values_of<D: Domain>(
@@ -68,7 +61,10 @@ fn values_of<D: Domain>(
 }
 
 /// The solution of a core: the ascent from Bottom up to and including the first round that changes nothing, in which a cut
-/// point is widened after `delay` changes, and `descend` rounds of narrowing. It takes one visit a point and round.
+/// point is widened after `delay` changes, and `descend` rounds of narrowing. In a round a point is computed only where a value
+/// that it reads changed since it was last computed, or since the start if it never was; the first round computes main's
+/// entry too, which reads nothing, and the first round of narrowing every cut point. Rounds are counted as if each computed
+/// every point.
 pub fn analyse<D: Domain>(
     alloc: Global,
     dom: &mut D,
@@ -83,16 +79,18 @@ pub fn analyse<D: Domain>(
 {
     let _points = core.points();
     let tables = graph(alloc, core)?;
-    let lists = sources(alloc, core)?;
+    let table = sources(alloc, core)?;
     let system = System {
         core,
         graph: tables,
-        lists,
+        table,
     };
     let mut slots = start(alloc, dom, core, delay)?;
-    let rounds = ascend(alloc, dom, &system, &mut slots, MOST_ROUNDS)?;
-    rounds::descend(alloc, dom, &system, &mut slots, descend)?;
-    let cuts = cut_points(alloc, &system)?;
+    let mut marks = first_marks(alloc, core)?;
+    let rounds = ascend(alloc, dom, &system, &mut slots, &mut marks, MOST_ROUNDS)?;
+    let mut marks = cut_marks(alloc, &system)?;
+    rounds::descend(alloc, dom, &system, &mut slots, &mut marks, descend)?;
+    let cuts = cut_marks(alloc, &system)?;
     let values = values_of(alloc, dom, &slots)?;
     Ok(Solution {
         values,

@@ -5,8 +5,9 @@ ghost use Rattle.spl_core.specs.Facts.{ActionFits};
 ghost use Rattle.spl_core.specs.Graph.{graph_of, move_of};
 ghost use Rattle.equations.specs.Equations.{entered_by, returned_by};
 ghost use Rattle.iteration.specs.Ends.{AreCells};
+ghost use Rattle.iteration.specs.Marks.{AreSeen};
 ghost use Rattle.iteration.specs.Plan.{reading};
-ghost use Rattle.iteration.specs.Slots.{cells_of};
+ghost use Rattle.iteration.specs.Slots.{cells_of, seens_of};
 
 use crate::reading::read;
 use crate::slot::Slot;
@@ -64,7 +65,9 @@ pub(crate) fn returned<D: Domain>(
 ) -> Result<D::V, NoMemory>
     requires fits { ActionFits system.now p action }
     requires dims { (D.meaning v.now).dims ≡ p.dims }
+    requires long { length slots.now ≡ length system.now.owners }
     requires sized { AreCells (graph_of system.now) (cells_of D.meaning slots.now) }
+    requires seen { AreSeen system.now (cells_of D.meaning slots.now) (seens_of D.meaning slots.now) }
     ensures value { IfOk result (λ r. D.meaning r ≡ returned_by (graph_of system.now) (reading system.now (cells_of D.meaning slots.now)) (move_of system.now action) (D.meaning v.now)) }
     ensures work { D.work dom.old ≤ D.work dom.new }
 {
@@ -76,10 +79,10 @@ pub(crate) fn returned<D: Domain>(
     {
         let core = system.core();
         let routine = core.proc_at(callee);
-        let exit = read(alloc, dom, system, slots, routine.exit)?;
+        let exit = read::<D>(slots, routine.exit);
         let args = span_items(alloc, core, args)?;
         let targets = span_items(alloc, core, targets)?;
-        let r = dom.back(alloc, v, &exit, &args, routine.outputs, &targets)?;
+        let r = dom.back(alloc, v, exit, &args, routine.outputs, &targets)?;
         Ok(r)
     } else {
         let r = dom.share(v)?;

@@ -1,35 +1,35 @@
 //! Rounds of the ascent and of the descent.
-ghost use Rattle.std.specs.Prelude.{◌≡◌, ◌≤◌, IfOk};
+ghost use Rattle.std.specs.Prelude.{◌≡◌, ◌≤◌, true, false, IfOk};
 ghost use Rattle.spl_core.specs.Graph.{graph_of};
 ghost use Rattle.call_graph.specs.Order.{order, is_cut};
-ghost use Rattle.iteration.specs.Ends.{AreCells};
-ghost use Rattle.iteration.specs.Plan.{Rounded};
+ghost use Rattle.iteration.specs.Marks.{IsKept, Rounded};
 ghost use Rattle.iteration.specs.Rounds.{ascended_in, ascent, repeated};
-ghost use Rattle.iteration.specs.Slots.{cells_of};
+ghost use Rattle.iteration.specs.Slots.{cells_of, seens_of};
 ghost use Rattle.iteration.specs.Solved.{rising, falling};
 
 use crate::slot::Slot;
 use crate::system::System;
-use crate::visiting::visit;
+use crate::visiting::pass;
 use domain::Domain;
 use memory::NoMemory;
 use std::alloc::Global;
 
-/// One round: every point in order. The answer is whether a value changed.
+/// One round: every point in order that is marked when its turn comes. The answer is whether a value changed.
 fn round<D: Domain>(
     alloc: Global,
     dom: &mut D,
     system: &System,
     down: bool,
     slots: &mut Vec<Slot<D::V>>,
+    marks: &mut Vec<bool>,
 ) -> Result<bool, NoMemory>
-    requires sized { AreCells (graph_of system.now) (cells_of D.meaning slots.old.items) }
-    ensures rounded { IfOk result (λ c. Rounded system.now down (order (graph_of system.now)) (cells_of D.meaning slots.old.items) (cells_of D.meaning slots.new.items) c) }
+    requires kept { IsKept system.now down (cells_of D.meaning slots.old.items) (seens_of D.meaning slots.old.items) marks.old.items }
+    ensures rounded { IfOk result (λ c. Rounded system.now down (order (graph_of system.now)) (cells_of D.meaning slots.old.items) (cells_of D.meaning slots.new.items) (seens_of D.meaning slots.new.items) marks.new.items c) }
     ensures work { D.work dom.old ≤ D.work dom.new }
 {
     let mut changed = false;
     for p in system.order() {
-        let here = visit(alloc, dom, system, down, slots, *p)?;
+        let here = pass(alloc, dom, system, down, slots, marks, *p)?;
         changed |= here;
     }
     Ok(changed)
@@ -41,15 +41,16 @@ pub(crate) fn ascend<D: Domain>(
     dom: &mut D,
     system: &System,
     slots: &mut Vec<Slot<D::V>>,
+    marks: &mut Vec<bool>,
     most: u64,
 ) -> Result<u64, NoMemory>
-    requires sized { AreCells (graph_of system.now) (cells_of D.meaning slots.old.items) }
+    requires kept { IsKept system.now false (cells_of D.meaning slots.old.items) (seens_of D.meaning slots.old.items) marks.old.items }
     ensures values { IfOk result (λ n. ascended_in (cells_of D.meaning slots.new.items) n ≡ ascent (rising (graph_of system.now) (is_cut (graph_of system.now))) (order (graph_of system.now)) most 0 (cells_of D.meaning slots.old.items)) }
-    ensures sized { IfOk result (λ n. AreCells (graph_of system.now) (cells_of D.meaning slots.new.items)) }
+    ensures kept { IfOk result (λ n. IsKept system.now false (cells_of D.meaning slots.new.items) (seens_of D.meaning slots.new.items) marks.new.items) }
     ensures work { D.work dom.old ≤ D.work dom.new }
 {
     for done in 0..most {
-        let changed = round(alloc, dom, system, false, slots)?;
+        let changed = round(alloc, dom, system, false, slots, marks)?;
         if !changed {
             return Ok(done + 1);
         }
@@ -63,14 +64,15 @@ pub(crate) fn descend<D: Domain>(
     dom: &mut D,
     system: &System,
     slots: &mut Vec<Slot<D::V>>,
+    marks: &mut Vec<bool>,
     count: u32,
 ) -> Result<(), NoMemory>
-    requires sized { AreCells (graph_of system.now) (cells_of D.meaning slots.old.items) }
+    requires kept { IsKept system.now true (cells_of D.meaning slots.old.items) (seens_of D.meaning slots.old.items) marks.old.items }
     ensures values { IfOk result (λ u. cells_of D.meaning slots.new.items ≡ repeated (falling (graph_of system.now) (is_cut (graph_of system.now))) (order (graph_of system.now)) count (cells_of D.meaning slots.old.items)) }
     ensures work { D.work dom.old ≤ D.work dom.new }
 {
     for done in 0..count {
-        let changed = round(alloc, dom, system, true, slots)?;
+        let changed = round(alloc, dom, system, true, slots, marks)?;
     }
     Ok(())
 }

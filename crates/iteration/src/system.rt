@@ -1,22 +1,22 @@
-//! A core with what the rounds read of it: the order of its points, its cut points, and the sources of each point.
+//! A core with what the rounds read of it: the order of its points, its cut points, and the sources and readers of each point.
 ghost use Rattle.std.specs.Prelude.{◌≡◌, ◌<◌, ◌≤◌, length};
 ghost use Rattle.spl_core.specs.Parts.{proc_at, owner_of};
 ghost use Rattle.spl_core.specs.Facts.{IsCore};
 ghost use Rattle.spl_core.specs.Graph.{graph_of};
 ghost use Rattle.call_graph.specs.Order.{order, is_cut};
-ghost use Rattle.equations.specs.Sources.{sources};
+ghost use Rattle.equations.specs.Sources.{sources, readers};
 
 use call_graph::Graph;
 use equations::{Source, Sources};
 use spl_core::{Core, Proc};
 use std::marker::Model;
 
-/// A core, its call graph and its sources.
+/// A core, its call graph, its sources and its readers.
 #[derive(Drop)]
 pub(crate) struct System<'c> {
     pub(crate) core: &'c Core,
     pub(crate) graph: Graph,
-    pub(crate) lists: Sources,
+    pub(crate) table: Sources,
 }
 
 impl<'c> Model for System<'c> {
@@ -27,7 +27,7 @@ impl<'c> Model for System<'c> {
 
     ghost view = { λ s. s.core.now };
 
-    ghost invariant = { λ s. IsPlan s.core.now s.graph s.lists };
+    ghost invariant = { λ s. IsPlan s.core.now s.graph s.table };
 }
 
 impl<'c> System<'c> {
@@ -64,12 +64,21 @@ impl<'c> System<'c> {
         self.graph.order()
     }
 
+    /// The points that read a point.
+    pub(crate) fn readers(&self, p: u32) -> &[u32]
+        requires { p < length self.now.owners }
+        ensures found { result.now ≡ readers (graph_of self.now) p }
+        ensures known { IsCore self.now }
+    {
+        self.table.readers(p)
+    }
+
     /// The sources of a point.
     pub(crate) fn sources(&self, p: u32) -> &[Source]
         requires { p < length self.now.owners }
         ensures found { result.now ≡ sources (graph_of self.now) p }
         ensures known { IsCore self.now }
     {
-        self.lists.of(p)
+        self.table.of(p)
     }
 }

@@ -1,13 +1,14 @@
 //! One visit of a point.
 ghost use Rattle.std.specs.Prelude.{◌≡◌, ◌-◌, ◌<◌, ◌≤◌, not, if◌then◌else◌, length, IfOk};
-ghost use Rattle.spl_core.specs.Graph.{graph_of};
-ghost use Rattle.iteration.specs.Ends.{AreCells};
+ghost use Rattle.iteration.specs.Marks.{IsKept};
 ghost use Rattle.iteration.specs.Plan.{moving};
 ghost use Rattle.iteration.specs.Rounds.{same_value, cell_at, stepped, visit};
-ghost use Rattle.iteration.specs.Slots.{cell_of, cells_of};
+ghost use Rattle.iteration.specs.Slots.{cell_of, cells_of, seens_of};
 
 use crate::equation::equation;
+use crate::marking::mark;
 use crate::slot::Slot;
+use crate::storing::store;
 use crate::system::System;
 use domain::Domain;
 use memory::NoMemory;
@@ -53,30 +54,63 @@ fn left_after(down: bool, cut: bool, left: u32) -> u32
     }
 }
 
-/// Visits a point. The answer is whether its value changed.
-pub(crate) fn visit<D: Domain>(
+/// Visits a point that is marked. The answer is whether its value changed. Its mark goes, and where what is read there
+/// changed, the points that read it are marked.
+fn visit<D: Domain>(
     alloc: Global,
     dom: &mut D,
     system: &System,
     down: bool,
     slots: &mut Vec<Slot<D::V>>,
+    marks: &mut Vec<bool>,
     p: u32,
 ) -> Result<bool, NoMemory>
     requires point { p < length system.now.owners }
-    requires sized { AreCells (graph_of system.now) (cells_of D.meaning slots.old.items) }
+    requires kept { IsKept system.now down (cells_of D.meaning slots.old.items) (seens_of D.meaning slots.old.items) marks.old.items }
     ensures cells { IfOk result (λ c. cells_of D.meaning slots.new.items ≡ visit (moving system.now down) p (cells_of D.meaning slots.old.items)) }
+    ensures kept { IfOk result (λ c. IsKept system.now down (cells_of D.meaning slots.new.items) (seens_of D.meaning slots.new.items) marks.new.items) }
     ensures changed { IfOk result (λ c. c ≡ not (same_value (moving system.now down p (cells_of D.meaning slots.old.items)).value (cell_at (cells_of D.meaning slots.old.items) p).value)) }
     ensures work { D.work dom.old ≤ D.work dom.new }
 {
     let from = equation(alloc, dom, system, slots, p)?;
+    dom.known(&from);
     let cut = system.is_cut(p);
     let value = new_value(alloc, dom, down, cut, &slots[p as usize], from)?;
+    marks[p as usize] = false;
     let same = dom.same(&value, &slots[p as usize].value);
     if same {
         Ok(false)
     } else {
         let left = left_after(down, cut, slots[p as usize].left);
-        slots[p as usize] = Slot { value, left };
+        let seen_anew = store(alloc, dom, cut, slots, p, value, left)?;
+        if seen_anew {
+            mark(marks, system.readers(p));
+        }
         Ok(true)
+    }
+}
+
+/// Visits a point where it is marked; where it isn't, a visit would change nothing. The answer is whether its value changed.
+pub(crate) fn pass<D: Domain>(
+    alloc: Global,
+    dom: &mut D,
+    system: &System,
+    down: bool,
+    slots: &mut Vec<Slot<D::V>>,
+    marks: &mut Vec<bool>,
+    p: u32,
+) -> Result<bool, NoMemory>
+    requires point { p < length system.now.owners }
+    requires kept { IsKept system.now down (cells_of D.meaning slots.old.items) (seens_of D.meaning slots.old.items) marks.old.items }
+    ensures cells { IfOk result (λ c. cells_of D.meaning slots.new.items ≡ visit (moving system.now down) p (cells_of D.meaning slots.old.items)) }
+    ensures kept { IfOk result (λ c. IsKept system.now down (cells_of D.meaning slots.new.items) (seens_of D.meaning slots.new.items) marks.new.items) }
+    ensures changed { IfOk result (λ c. c ≡ not (same_value (moving system.now down p (cells_of D.meaning slots.old.items)).value (cell_at (cells_of D.meaning slots.old.items) p).value)) }
+    ensures work { D.work dom.old ≤ D.work dom.new }
+{
+    if marks[p as usize] {
+        let changed = visit(alloc, dom, system, down, slots, marks, p)?;
+        Ok(changed)
+    } else {
+        Ok(false)
     }
 }

@@ -1,10 +1,13 @@
-use Rattle.std.proofs.Common.{rules, ◌≡◌, [], ◌∷◌, ◌++◌}
+use Rattle.std.proofs.Common.{map, List, length, ℕ, ap, ◌∙◌}
+use Rattle.std.specs.List.{range_with_len}
 use Rattle.spl_core.specs.Graph.{graph_of}
+use Rattle.equations.specs.declared.source.Source.{Source}
 use Rattle.equations.specs.Sources.{sources}
-use Rattle.equations.proofs.Gathering.{listed_more}
+use Rattle.equations.specs.Table.{table_of}
 use Rattle.equations.proofs.finding.sources.Goals as goal
 
-pub loop-x-preserved : goal.loop-x-preserved
-loop-x-preserved c =
-    let pushed : c.push.new.self.items ≡ c.loop-x.lists.items ++ c.in_ok-list.list ∷ [] = search rules in
-    listed_more (λ v. v.items) (sources (graph_of c.args.core.now)) c.loop-x.x c.loop-x.lists.items c.push.new.self.items c.in_ok-list.list c.loop-x.invariant pushed c.in_ok-list.ensures
+pub returns : goal.returns
+unfolding table_of graph_of
+returns c =
+    ap (λ (ls : List (List Source)). record { lists = ls; readers = map (λ v. v.items) c.in_ok-readers.readers.items }) c.in_ok-lists.ensures
+    ∙ ap (λ (rs : List (List ℕ)). record { lists = map (sources (graph_of c.args.core.now)) (range_with_len 0 (length c.args.core.now.owners)); readers = rs }) c.in_ok-readers.ensures

@@ -5,11 +5,12 @@ use Rattle.spl_core.specs.Parts.{Parts, edge_at}
 use Rattle.spl_core.specs.Graph.{graph_of, move_of}
 use Rattle.transfer_def.specs.Move.{IsMoveOver, move_value}
 use Rattle.equations.specs.declared.source.Source.TheVariants.{Flow, Enter, Back}
+use Rattle.equations.specs.Sources.{SourceFits}
 use Rattle.equations.specs.Equations.{brought, entered_by}
-use Rattle.iteration.specs.Slots.{cells_of}
-use Rattle.iteration.specs.Plan.{SourceFits, reading}
+use Rattle.iteration.specs.Slots.{cells_of, seens_of}
+use Rattle.iteration.specs.Plan.{reading}
 use Rattle.iteration.proofs.Sized.{proc-dims}
-use Rattle.iteration.proofs.Fitting.{old-dims, move_over, flow_is, enter_is, back_is}
+use Rattle.iteration.proofs.Fitting.{old_is, old-dims, move_over, flow_is, enter_is, back_is}
 use Rattle.iteration.proofs.equation.brought.Goals as goal
 
 pub moved-requires-clause-over : goal.moved-requires-clause-over
@@ -18,9 +19,10 @@ moved-requires-clause-over g c =
     let s = c.args.system.now in
     let e = c.in-Flow.edge in
     let fits : SourceFits s c.args.p (Flow e) = subst (SourceFits s c.args.p) c.in-Flow.is c.requires.source in
-    subst (λ (k : Parts). IsMoveOver (m c.in_ok-old-in-Flow.old).dims (move_of k c.edge_at-edge.result.action)) (sym c.core-core.ensures.value)
-    (move_over s (cells_of m c.args.slots.now) e c.edge_at-edge.result (m c.in_ok-old-in-Flow.old) c.core-core.ensures.known c.requires.sized fits.0
-    (c.edge_at-edge.ensures.found ∙ ap (λ (k : Parts). edge_at k e) c.core-core.ensures.value) c.in_ok-old-in-Flow.ensures.value)
+    subst (λ (k : Parts). IsMoveOver (m c.read-old.result.now).dims (move_of k c.edge_at-edge.result.action)) (sym c.core-core.ensures.value)
+    (move_over s (cells_of m c.args.slots.now) e c.edge_at-edge.result (m c.read-old.result.now) c.core-core.ensures.known c.requires.sized fits.0
+    (c.edge_at-edge.ensures.found ∙ ap (λ (k : Parts). edge_at k e) c.core-core.ensures.value) (old_is s (cells_of m c.args.slots.now) (seens_of m c.args.slots.now) e c.edge_at-edge.result (m c.read-old.result.now) c.core-core.ensures.known c.requires.seen fits.0
+    (c.edge_at-edge.ensures.found ∙ ap (λ (k : Parts). edge_at k e) c.core-core.ensures.value) c.read-old.ensures))
 
 pub moved-requires-clause-dims : goal.moved-requires-clause-dims
 moved-requires-clause-dims g c =
@@ -29,8 +31,9 @@ moved-requires-clause-dims g c =
     let e = c.in-Flow.edge in
     let fits : SourceFits s c.args.p (Flow e) = subst (SourceFits s c.args.p) c.in-Flow.is c.requires.source in
     ap (λ (q : Proc). q.dims) c.proc_owning-dims.ensures.found
-    ∙ sym (old-dims s (cells_of m c.args.slots.now) e c.edge_at-edge.result (m c.in_ok-old-in-Flow.old) c.core-core.ensures.known c.requires.sized fits.0
-    (c.edge_at-edge.ensures.found ∙ ap (λ (k : Parts). edge_at k e) c.core-core.ensures.value) c.in_ok-old-in-Flow.ensures.value)
+    ∙ sym (old-dims s (cells_of m c.args.slots.now) e c.edge_at-edge.result (m c.read-old.result.now) c.core-core.ensures.known c.requires.sized fits.0
+    (c.edge_at-edge.ensures.found ∙ ap (λ (k : Parts). edge_at k e) c.core-core.ensures.value) (old_is s (cells_of m c.args.slots.now) (seens_of m c.args.slots.now) e c.edge_at-edge.result (m c.read-old.result.now) c.core-core.ensures.known c.requires.seen fits.0
+    (c.edge_at-edge.ensures.found ∙ ap (λ (k : Parts). edge_at k e) c.core-core.ensures.value) c.read-old.ensures))
 
 pub entered-requires-clause-dims : goal.entered-requires-clause-dims
 entered-requires-clause-dims g c =
@@ -38,8 +41,9 @@ entered-requires-clause-dims g c =
     let s = c.args.system.now in
     let e = c.in-Enter.edge in
     let fits : SourceFits s c.args.p (Enter e) = subst (SourceFits s c.args.p) c.in-Enter.is c.requires.source in
-    old-dims s (cells_of m c.args.slots.now) e c.edge_at-edge-in-Enter.result (m c.in_ok-old-in-Enter.old) c.core-core.ensures.known c.requires.sized fits.0
-    (c.edge_at-edge-in-Enter.ensures.found ∙ ap (λ (k : Parts). edge_at k e) c.core-core.ensures.value) c.in_ok-old-in-Enter.ensures.value
+    old-dims s (cells_of m c.args.slots.now) e c.edge_at-edge-in-Enter.result (m c.read-old-in-Enter.result.now) c.core-core.ensures.known c.requires.sized fits.0
+    (c.edge_at-edge-in-Enter.ensures.found ∙ ap (λ (k : Parts). edge_at k e) c.core-core.ensures.value) (old_is s (cells_of m c.args.slots.now) (seens_of m c.args.slots.now) e c.edge_at-edge-in-Enter.result (m c.read-old-in-Enter.result.now) c.core-core.ensures.known c.requires.seen fits.0
+    (c.edge_at-edge-in-Enter.ensures.found ∙ ap (λ (k : Parts). edge_at k e) c.core-core.ensures.value) c.read-old-in-Enter.ensures)
     ∙ sym (ap (λ (q : Proc). q.dims) c.proc_owning-caller.ensures.found)
 
 pub returned-requires-clause-dims : goal.returned-requires-clause-dims
@@ -48,8 +52,9 @@ returned-requires-clause-dims g c =
     let s = c.args.system.now in
     let e = c.in-Back.edge in
     let fits : SourceFits s c.args.p (Back e) = subst (SourceFits s c.args.p) c.in-Back.is c.requires.source in
-    old-dims s (cells_of m c.args.slots.now) e c.edge_at-edge-in-Back.result (m c.in_ok-old-in-Back.old) c.core-core.ensures.known c.requires.sized fits.0
-    (c.edge_at-edge-in-Back.ensures.found ∙ ap (λ (k : Parts). edge_at k e) c.core-core.ensures.value) c.in_ok-old-in-Back.ensures.value
+    old-dims s (cells_of m c.args.slots.now) e c.edge_at-edge-in-Back.result (m c.read-old-in-Back.result.now) c.core-core.ensures.known c.requires.sized fits.0
+    (c.edge_at-edge-in-Back.ensures.found ∙ ap (λ (k : Parts). edge_at k e) c.core-core.ensures.value) (old_is s (cells_of m c.args.slots.now) (seens_of m c.args.slots.now) e c.edge_at-edge-in-Back.result (m c.read-old-in-Back.result.now) c.core-core.ensures.known c.requires.seen fits.0
+    (c.edge_at-edge-in-Back.ensures.found ∙ ap (λ (k : Parts). edge_at k e) c.core-core.ensures.value) c.read-old-in-Back.ensures)
     ∙ sym (ap (λ (q : Proc). q.dims) c.proc_owning-caller-in-Back.ensures.found)
 
 pub returns-in_ok-v-in-Always-clause-value : goal.returns-in_ok-v-in-Always-clause-value
@@ -65,10 +70,12 @@ returns-in_ok-v-in-Flow-clause-value g c =
     let m = g.D.Domain.meaning in
     let s = c.args.system.now in
     let e = c.in-Flow.edge in
+    let fits : SourceFits s c.args.p (Flow e) = subst (SourceFits s c.args.p) c.in-Flow.is c.requires.source in
     let r = reading s (cells_of m c.args.slots.now) in
-    flow_is s r c.args.p e c.edge_at-edge.result (m c.in_ok-old-in-Flow.old) (m c.in_ok-v-in-Flow.v)
-    (c.edge_at-edge.ensures.found ∙ ap (λ (k : Parts). edge_at k e) c.core-core.ensures.value) c.in_ok-old-in-Flow.ensures.value
-    (c.in_ok-v-in-Flow.ensures.value ∙ ap (λ (k : Parts). move_value (move_of k c.edge_at-edge.result.action) (m c.in_ok-old-in-Flow.old)) c.core-core.ensures.value)
+    flow_is s r c.args.p e c.edge_at-edge.result (m c.read-old.result.now) (m c.in_ok-v-in-Flow.v)
+    (c.edge_at-edge.ensures.found ∙ ap (λ (k : Parts). edge_at k e) c.core-core.ensures.value) (old_is s (cells_of m c.args.slots.now) (seens_of m c.args.slots.now) e c.edge_at-edge.result (m c.read-old.result.now) c.core-core.ensures.known c.requires.seen fits.0
+    (c.edge_at-edge.ensures.found ∙ ap (λ (k : Parts). edge_at k e) c.core-core.ensures.value) c.read-old.ensures)
+    (c.in_ok-v-in-Flow.ensures.value ∙ ap (λ (k : Parts). move_value (move_of k c.edge_at-edge.result.action) (m c.read-old.result.now)) c.core-core.ensures.value)
     ∙ sym (ap (brought (graph_of s) r c.args.p) c.in-Flow.is)
 
 pub returns-in_ok-v-in-Enter-clause-value : goal.returns-in_ok-v-in-Enter-clause-value
@@ -76,10 +83,12 @@ returns-in_ok-v-in-Enter-clause-value g c =
     let m = g.D.Domain.meaning in
     let s = c.args.system.now in
     let e = c.in-Enter.edge in
+    let fits : SourceFits s c.args.p (Enter e) = subst (SourceFits s c.args.p) c.in-Enter.is c.requires.source in
     let r = reading s (cells_of m c.args.slots.now) in
-    enter_is s r c.args.p e c.edge_at-edge-in-Enter.result (m c.in_ok-old-in-Enter.old) (m c.in_ok-v-in-Enter.v)
-    (c.edge_at-edge-in-Enter.ensures.found ∙ ap (λ (k : Parts). edge_at k e) c.core-core.ensures.value) c.in_ok-old-in-Enter.ensures.value
-    (c.in_ok-v-in-Enter.ensures.value ∙ ap (λ (k : Parts). entered_by (graph_of k) (move_of k c.edge_at-edge-in-Enter.result.action) (m c.in_ok-old-in-Enter.old)) c.core-core.ensures.value)
+    enter_is s r c.args.p e c.edge_at-edge-in-Enter.result (m c.read-old-in-Enter.result.now) (m c.in_ok-v-in-Enter.v)
+    (c.edge_at-edge-in-Enter.ensures.found ∙ ap (λ (k : Parts). edge_at k e) c.core-core.ensures.value) (old_is s (cells_of m c.args.slots.now) (seens_of m c.args.slots.now) e c.edge_at-edge-in-Enter.result (m c.read-old-in-Enter.result.now) c.core-core.ensures.known c.requires.seen fits.0
+    (c.edge_at-edge-in-Enter.ensures.found ∙ ap (λ (k : Parts). edge_at k e) c.core-core.ensures.value) c.read-old-in-Enter.ensures)
+    (c.in_ok-v-in-Enter.ensures.value ∙ ap (λ (k : Parts). entered_by (graph_of k) (move_of k c.edge_at-edge-in-Enter.result.action) (m c.read-old-in-Enter.result.now)) c.core-core.ensures.value)
     ∙ sym (ap (brought (graph_of s) r c.args.p) c.in-Enter.is)
 
 pub returns-in_ok-v-in-Back-clause-value : goal.returns-in_ok-v-in-Back-clause-value
@@ -87,8 +96,10 @@ returns-in_ok-v-in-Back-clause-value g c =
     let m = g.D.Domain.meaning in
     let s = c.args.system.now in
     let e = c.in-Back.edge in
+    let fits : SourceFits s c.args.p (Back e) = subst (SourceFits s c.args.p) c.in-Back.is c.requires.source in
     let r = reading s (cells_of m c.args.slots.now) in
-    back_is s r c.args.p e c.edge_at-edge-in-Back.result (m c.in_ok-old-in-Back.old) (m c.in_ok-v-in-Back.v)
-    (c.edge_at-edge-in-Back.ensures.found ∙ ap (λ (k : Parts). edge_at k e) c.core-core.ensures.value) c.in_ok-old-in-Back.ensures.value
+    back_is s r c.args.p e c.edge_at-edge-in-Back.result (m c.read-old-in-Back.result.now) (m c.in_ok-v-in-Back.v)
+    (c.edge_at-edge-in-Back.ensures.found ∙ ap (λ (k : Parts). edge_at k e) c.core-core.ensures.value) (old_is s (cells_of m c.args.slots.now) (seens_of m c.args.slots.now) e c.edge_at-edge-in-Back.result (m c.read-old-in-Back.result.now) c.core-core.ensures.known c.requires.seen fits.0
+    (c.edge_at-edge-in-Back.ensures.found ∙ ap (λ (k : Parts). edge_at k e) c.core-core.ensures.value) c.read-old-in-Back.ensures)
     c.in_ok-v-in-Back.ensures.value
     ∙ sym (ap (brought (graph_of s) r c.args.p) c.in-Back.is)

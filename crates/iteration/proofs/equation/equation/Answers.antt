@@ -12,7 +12,7 @@ use Rattle.iteration.specs.Solved.{source_in}
 use Rattle.iteration.specs.Plan.{reading}
 use Rattle.iteration.specs.Slots.{cells_of}
 use Rattle.iteration.proofs.Sized.{proc-dims, brought-dims, folded-dims, bottom-dims}
-use Rattle.iteration.proofs.Fitting.{source_fits}
+use Rattle.equations.proofs.Fitting.{source_fits}
 use Rattle.iteration.proofs.equation.equation.Goals as goal
 
 pub brought-requires-clause-source : goal.brought-requires-clause-source

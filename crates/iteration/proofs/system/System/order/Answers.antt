@@ -5,5 +5,5 @@ use Rattle.iteration.proofs.system.System.order.Goals as goal
 pub returns-clause-found : goal.returns-clause-found
 returns-clause-found c =
     let s = c.self.inside in
-    let plan = plan_of s.core.now c.args.self.now s.graph s.lists c.self.view_is c.self.invariant in
+    let plan = plan_of s.core.now c.args.self.now s.graph s.table c.self.view_is c.self.invariant in
     c.order.ensures ∙ order_read c.args.self.now s.graph plan.graph
