@@ -47,7 +47,7 @@ of-analysis words asked is = by (given_of words) is
     by None is = absurd (cc is)
     by (Some given) is =
         analysed given (rounds_or 1 given.delay) (rounds_or 2 given.descend) asked
-            (λ n e. rounds-small 1 given.delay n (omega arith) e) (λ n e. rounds-small 2 given.descend n (omega arith) e) is
+        (λ n e. rounds-small 1 given.delay n (omega arith) e) (λ n e. rounds-small 2 given.descend n (omega arith) e) is
 
 of-bench : (words : List Text) (asked : Asked) → bench_of words ≡ Some asked → IsWithinLimits asked
 unfolding bench_of
