@@ -1,9 +1,6 @@
 //! The value of a point as it is read.
 ghost use Rattle.std.specs.Prelude.{◌≡◌, ◌<◌, length};
-ghost use Rattle.spl_core.specs.Graph.{graph_of};
-ghost use Rattle.iteration.specs.Marks.{AreSeen};
-ghost use Rattle.iteration.specs.Plan.{reading};
-ghost use Rattle.iteration.specs.Slots.{cells_of, seen_at, seens_of};
+ghost use Rattle.iteration.specs.Slots.{seen_at};
 
 use crate::slot::Slot;
 use domain::Domain;
