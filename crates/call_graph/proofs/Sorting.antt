@@ -15,10 +15,10 @@ use Rattle.call_graph.proofs.Lists.{from_flat_map}
 
 -- ---- lists
 
-in_filter : {X : Type 0} → (p : X → Bool) (xs : List X) (x : X) → Contains (filter p xs) x → (p x ≡ true) × Contains xs x
+pub in_filter : {X : Type 0} → (p : X → Bool) (xs : List X) (x : X) → Contains (filter p xs) x → (p x ≡ true) × Contains xs x
 in_filter p xs x h = (All-contains (λ y. p y ≡ true) (filter p xs) x (filter_passes p xs) h, All-contains (Contains xs) (filter p xs) x (All-filter p (Contains xs) xs (All-contains_itself xs)) h)
 
-into_filter : {X : Type 0} → (p : X → Bool) (xs : List X) (x : X) → Contains xs x → p x ≡ true → Contains (filter p xs) x
+pub into_filter : {X : Type 0} → (p : X → Bool) (xs : List X) (x : X) → Contains xs x → p x ≡ true → Contains (filter p xs) x
 into_filter p [] x h e = h
 into_filter p (y ∷ xs) x h e = by h.0 h.1 h.2 (λ u. into_filter p xs x u e)
   where
@@ -38,10 +38,10 @@ into_flat_map f (x ∷ xs) k y h u = by h.0 h.1 h.2 (λ t. into_flat_map f xs k 
     by zero lt same rest = Contains-append_left (f x) (flat_map f xs) y (subst (λ z. Contains (f z) y) (sym same) u)
     by (suc i) lt same rest = Contains-append_right (f x) (flat_map f xs) y (rest (i, omega arith, same))
 
-in_range : (n x : ℕ) → Contains (range_with_len 0 n) x → x < n
+pub in_range : (n x : ℕ) → Contains (range_with_len 0 n) x → x < n
 in_range n x h = omega (arith, h.1, h.2, length-range_with_len 0 n, get_or-range_with_len 0 n h.0 x)
 
-into_range : (n x : ℕ) → x < n → Contains (range_with_len 0 n) x
+pub into_range : (n x : ℕ) → x < n → Contains (range_with_len 0 n) x
 into_range n x lt = (x, omega (arith, length-range_with_len 0 n), get_or-range_with_len 0 n x x lt ∙ omega arith)
 
 -- ---- pairs
