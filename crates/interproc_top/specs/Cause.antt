@@ -34,6 +34,9 @@ status_of cause.CannotOpen = status.Outside
 status_of cause.ReadFault = status.Outside
 status_of cause.TooLong = status.Refused
 status_of (cause.Broken rule place) = status.Refused
+status_of (cause.BadChoices place) = status.Refused
+status_of (cause.NotARun step) = status.Refused
+status_of (cause.Wide step) = status.Refused
 status_of cause.WriteFault = status.Outside
 status_of cause.NoMemory = status.NoMemory
 
@@ -65,9 +68,13 @@ rule_name rule.Syntax = codes "Syntax"
 rule_name (rule.Check broken) = check_rule_name broken
 
 -- `refused: RULE at L1 C7`
-abbrev pub broken_line : Rule → Place → List ℕ
-broken_line rule place =
-    codes "refused: " ++ (rule_name rule ++ (codes " at L" ++ (decimal place.line ++ (codes " C" ++ (decimal place.column ++ codes "\n")))))
+abbrev pub place_line : List ℕ → Place → List ℕ
+place_line name place =
+    codes "refused: " ++ (name ++ (codes " at L" ++ (decimal place.line ++ (codes " C" ++ (decimal place.column ++ codes "\n")))))
+
+-- `refused: NotARun 4`
+abbrev pub step_line : List ℕ → ℕ → List ℕ
+step_line name step = codes "refused: " ++ (name ++ (codes " " ++ (decimal step ++ codes "\n")))
 
 -- the line that goes to the second stream
 abbrev pub line_of : Cause → List ℕ
@@ -75,6 +82,9 @@ line_of cause.Usage = codes "usage: interproc [--delay N] [--descend N] [--full]
 line_of cause.CannotOpen = codes "fault: CannotOpen\n"
 line_of cause.ReadFault = codes "fault: ReadFault\n"
 line_of cause.TooLong = codes "refused: TooLong\n"
-line_of (cause.Broken rule place) = broken_line rule place
+line_of (cause.Broken rule place) = place_line (rule_name rule) place
+line_of (cause.BadChoices place) = place_line (codes "BadChoices") place
+line_of (cause.NotARun step) = step_line (codes "NotARun") step
+line_of (cause.Wide step) = step_line (codes "Wide") step
 line_of cause.WriteFault = codes "fault: WriteFault\n"
 line_of cause.NoMemory = codes "out of memory\n"

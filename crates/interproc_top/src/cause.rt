@@ -1,10 +1,11 @@
 //! What ends a call, and the status and the line that tell of it.
 ghost use Rattle.std.specs.Prelude.{◌≡◌, ◌++◌, ◌+◌, ◌≤◌, length, decimal};
 ghost use Rattle.arrayvec.specs.ArrayString.{array_string_len};
-ghost use Rattle.interproc_top.specs.Cause.{status_by, status_of, line_of, number_of, rule_name, text_rule_name, check_rule_name, broken_line};
+ghost use Rattle.interproc_top.specs.Cause.{status_by, status_of, line_of, number_of, rule_name, text_rule_name, check_rule_name, place_line, step_line};
 
 use arrayvec::ArrayString;
 use itoa::Buffer;
+use memory::NoMemory;
 use spl_text::{Place, TextRule};
 use spl_types::CheckRule;
 
@@ -17,7 +18,7 @@ pub enum Status {
     Open,
     /// The words are of no form.
     Usage,
-    /// The file breaks a rule.
+    /// A file breaks a rule, or gives no run.
     Refused,
     /// Opening, reading or writing failed.
     Outside,
@@ -116,6 +117,17 @@ fn check_rule_name(rule: CheckRule) -> &'static str
     }
 }
 
+impl From<NoMemory> for Cause {
+    ghost use Rattle.std.specs.Prelude.{◌≡◌};
+    ghost use Rattle.interproc_top.specs.declared.cause.Cause.{Cause};
+
+    ghost from_gives = { λ _ cause. cause ≡ Cause.NoMemory };
+
+    fn from(_wanting: NoMemory) -> Cause {
+        Cause::NoMemory
+    }
+}
+
 /// The first event that ends a call before its whole output is written, in the order in which they may come.
 #[derive(Clone, Copy, Debug, PartialEq, Eq)]
 pub enum Cause {
@@ -123,7 +135,14 @@ pub enum Cause {
     CannotOpen,
     ReadFault,
     TooLong,
+    /// The program breaks a rule at this place.
     Broken(Rule, Place),
+    /// The choices are no such text; this is the place of the first fault.
+    BadChoices(Place),
+    /// The step with this number is none of a run.
+    NotARun(u64),
+    /// At the step with this number a value passes 128 bits.
+    Wide(u64),
     WriteFault,
     NoMemory,
 }
@@ -134,7 +153,11 @@ impl Cause {
     {
         match self {
             Cause::Usage => Status::Usage,
-            Cause::TooLong | Cause::Broken(..) => Status::Refused,
+            Cause::TooLong
+            | Cause::Broken(..)
+            | Cause::BadChoices(_)
+            | Cause::NotARun(_)
+            | Cause::Wide(_) => Status::Refused,
             Cause::CannotOpen | Cause::ReadFault | Cause::WriteFault => Status::Outside,
             Cause::NoMemory => Status::NoMemory,
         }
@@ -151,7 +174,10 @@ impl Cause {
             Cause::CannotOpen => fixed("fault: CannotOpen\n"),
             Cause::ReadFault => fixed("fault: ReadFault\n"),
             Cause::TooLong => fixed("refused: TooLong\n"),
-            Cause::Broken(rule, place) => broken(rule, place),
+            Cause::Broken(rule, place) => at_place(rule.name(), place),
+            Cause::BadChoices(place) => at_place("BadChoices", place),
+            Cause::NotARun(step) => at_step("NotARun", step),
+            Cause::Wide(step) => at_step("Wide", step),
             Cause::WriteFault => fixed("fault: WriteFault\n"),
             Cause::NoMemory => fixed("out of memory\n"),
         }
@@ -168,16 +194,30 @@ fn fixed(text: &str) -> ArrayString<96>
     line
 }
 
-/// The line of a broken rule, as `refused: Syntax at L1 C7`.
-fn broken(rule: Rule, place: Place) -> ArrayString<96>
-    ensures { result.bytes ≡ broken_line rule place }
+/// A refusal with its place, as `refused: Syntax at L1 C7`.
+fn at_place(name: &str, place: Place) -> ArrayString<96>
+    requires short { length name.now ≤ 19 }
+    ensures { result.bytes ≡ place_line name.now place }
 {
     let mut line = fixed("refused: ");
-    put(&mut line, rule.name());
+    put(&mut line, name);
     put(&mut line, " at L");
     put(&mut line, Buffer::new().format(place.line));
     put(&mut line, " C");
     put(&mut line, Buffer::new().format(place.column));
+    put(&mut line, "\n");
+    line
+}
+
+/// A refusal with its step, as `refused: NotARun 4`.
+fn at_step(name: &str, step: u64) -> ArrayString<96>
+    requires short { length name.now ≤ 19 }
+    ensures { result.bytes ≡ step_line name.now step }
+{
+    let mut line = fixed("refused: ");
+    put(&mut line, name);
+    put(&mut line, " ");
+    put(&mut line, Buffer::new().format(step));
     put(&mut line, "\n");
     line
 }

@@ -2,8 +2,11 @@
 #![tactic(auto)]
 
 mod analysis;
+mod bench;
 mod cause;
 mod command;
+mod reading;
+mod replay;
 mod stages;
 #[cfg(test)]
 mod tests;

@@ -33,7 +33,7 @@ pub fn report_of(alloc: Global, bytes: &[u8], options: Options) -> Result<Report
 }
 
 /// The tokens of the bytes.
-fn tokens_of(alloc: Global, bytes: &[u8]) -> Result<Tokens, Cause>
+pub fn tokens_of(alloc: Global, bytes: &[u8]) -> Result<Tokens, Cause>
     requires short { length bytes.now ≤ 2 ^ 20 }
     ensures tokenized { IfOk result (λ tokens. IsTokenized bytes.now tokens) }
     ensures refused { IfErr result (Refuses bytes.now) }
@@ -46,7 +46,7 @@ fn tokens_of(alloc: Global, bytes: &[u8]) -> Result<Tokens, Cause>
 }
 
 /// The tree that the tokens derive.
-fn tree_of(alloc: Global, bytes: &[u8], tokens: &Tokens) -> Result<Tree, Cause>
+pub fn tree_of(alloc: Global, bytes: &[u8], tokens: &Tokens) -> Result<Tree, Cause>
     requires short { length bytes.now ≤ 2 ^ 20 }
     requires tokenized { IsTokenized bytes.now tokens.now }
     ensures parsed { IfOk result (λ tree. IsParsed bytes.now (program_of tree)) }
@@ -60,7 +60,7 @@ fn tree_of(alloc: Global, bytes: &[u8], tokens: &Tokens) -> Result<Tree, Cause>
 }
 
 /// The tree, once it breaks no rule.
-fn checked_of<'t>(alloc: Global, bytes: &[u8], tree: &'t Tree) -> Result<Checked<'t>, Cause>
+pub fn checked_of<'t>(alloc: Global, bytes: &[u8], tree: &'t Tree) -> Result<Checked<'t>, Cause>
     requires short { length bytes.now ≤ 2 ^ 20 }
     requires parsed { IsParsed bytes.now (program_of tree.now) }
     ensures accepted { IfOk result (λ checked. IsAccepted bytes.now (program_of checked)) }

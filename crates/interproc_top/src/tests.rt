@@ -27,6 +27,17 @@ fn with_file(alloc: Global, word: &[u8], text: &[u8]) -> Result<Outside, Fail> {
     })
 }
 
+/// These words, a program `f` and choices `c`.
+fn with_words(alloc: Global, words: &[&str], text: &[u8], choices: &[u8]) -> Result<Outside, Fail> {
+    let mut outside = with_file(alloc, b"f", text)?;
+    outside.words = Words::new(alloc);
+    for word in words {
+        outside.words.push(word.as_bytes())?;
+    }
+    outside.files.put(b"c", choices)?;
+    Ok(outside)
+}
+
 /// Runs the call, and compares the status and what stands on the sinks.
 fn expect(
     rt: &impl Abort,
@@ -259,9 +270,18 @@ fn words_of_no_form_and_missing_files(rt: HostRuntime) -> Result<(), Fail> {
         let o = with_file(rt.alloc(), word, b"begin end")?;
         expect(&rt, rt.alloc(), o, 2, b"", usage)?;
     }
-    let mut two = with_file(rt.alloc(), b"f", b"begin end")?;
-    two.words.push(b"f")?;
-    expect(&rt, rt.alloc(), two, 2, b"", usage)?;
+    for words in [
+        ["f", "f"].as_slice(),
+        [].as_slice(),
+        ["--delay", "1001", "f"].as_slice(),
+        ["--domain", "zone", "f"].as_slice(),
+        ["--delay", "1", "--delay", "1", "f"].as_slice(),
+        ["bench", "43"].as_slice(),
+        ["replay", "f"].as_slice(),
+    ] {
+        let o = with_words(rt.alloc(), words, b"begin end", b"")?;
+        expect(&rt, rt.alloc(), o, 2, b"", usage)?;
+    }
     for word in [b"-".as_slice(), b"".as_slice(), b"g".as_slice()] {
         let o = with_file(rt.alloc(), word, b"begin end")?;
         expect(&rt, rt.alloc(), o, 4, b"", b"fault: CannotOpen\n")?;
@@ -459,5 +479,97 @@ fn faults(rt: HostRuntime) -> Result<(), Fail> {
     let blanks = vec![in rt.alloc(); b' '; (1 << 20) + 1]?;
     let long = with_file(rt.alloc(), b"f", &blanks)?;
     expect(&rt, rt.alloc(), long, 3, b"", b"refused: TooLong\n")?;
+    Ok(())
+}
+
+const COUNTING: &[u8] = b"var i:int;\nbegin\ni = 0;\nwhile i < 10 do\ni = i + 1;\ndone;\nend\n";
+
+/// Words, a program, and its report.
+const OPTIONS: [(&[&str], &[u8], &[u8]); 3] = [
+    (
+        &["f", "--descend", "0"],
+        COUNTING,
+        b"var i:int;\nbegin\n  /* (L2 C6) top */\n  i = 0;\n  /* (L3 C7) [|i>=0|] */\n  while i < 10 do\n    /* (L4 C16) [|i>=0; -i+9>=0|] */\n    i = i + 1;\n    /* (L5 C11) [|i-1>=0; -i+10>=0|] */\n  done;\n  /* (L6 C6) [|i-10>=0|] */\nend\n/* rounds: 3 */\n",
+    ),
+    (
+        &["--delay=20", "--descend=0", "f"],
+        COUNTING,
+        b"var i:int;\nbegin\n  /* (L2 C6) top */\n  i = 0;\n  /* (L3 C7) [|i>=0; -i+10>=0|] */\n  while i < 10 do\n    /* (L4 C16) [|i>=0; -i+9>=0|] */\n    i = i + 1;\n    /* (L5 C11) [|i-1>=0; -i+10>=0|] */\n  done;\n  /* (L6 C6) [|i-10=0|] */\nend\n/* rounds: 12 */\n",
+    ),
+    (
+        &["--full", "f"],
+        b"var x:int, y:int;\nbegin\nx = 0;\ny = 0;\nend\n",
+        b"var x:int, y:int;\nbegin\n  /* (L2 C6) top */\n  x = 0;\n  /* (L3 C7) [|x=0|] */\n  y = 0;\n  /* (L4 C7) [|x=0; -x+y=0; x+y=0; y=0|] */\nend\n/* rounds: 2 */\n",
+    ),
+];
+
+#[test]
+fn options_of_an_analysis(rt: HostRuntime) -> Result<(), Fail> {
+    for (words, text, report) in OPTIONS {
+        let o = with_words(rt.alloc(), words, text, b"")?;
+        expect(&rt, rt.alloc(), o, 0, report, b"")?;
+    }
+    Ok(())
+}
+
+/// A program, choices, the status, the lines of the run, and the line on the second stream.
+const REPLAYS: [(&[u8], &[u8], u8, &[u8], &[u8]); 7] = [
+    (
+        COUNTING,
+        b"7\n0\n0\n0\n0\n",
+        0,
+        b"0 1 7\n1 1 7\n2 1 0\n3 1 0\n4 1 1\n",
+        b"",
+    ),
+    (
+        COUNTING,
+        b"7\n0\n0\n0\n1\n",
+        3,
+        b"",
+        b"refused: NotARun 4\n",
+    ),
+    (
+        b"var x:int;\nbegin\nx = x * x;\nend\n",
+        b"18446744073709551616\n0\n0\n",
+        3,
+        b"",
+        b"refused: Wide 2\n",
+    ),
+    (COUNTING, b"x", 3, b"", b"refused: BadChoices at L1 C1\n"),
+    (COUNTING, b"", 3, b"", b"refused: NotARun 0\n"),
+    (b"begin fail; end", b"\n0", 1, b"0 1\n1 1\n", b""),
+    (
+        b"begin y = 1; end",
+        b"x",
+        3,
+        b"",
+        b"refused: UnknownVariable at L1 C7\n",
+    ),
+];
+
+#[test]
+fn replays(rt: HostRuntime) -> Result<(), Fail> {
+    for (text, choices, status, lines, line) in REPLAYS {
+        let o = with_words(rt.alloc(), &["replay", "f", "c"], text, choices)?;
+        expect(&rt, rt.alloc(), o, status, lines, line)?;
+    }
+    let o = with_words(rt.alloc(), &["replay", "f", "d"], COUNTING, b"")?;
+    expect(&rt, rt.alloc(), o, 4, b"", b"fault: CannotOpen\n")?;
+    let o = with_words(rt.alloc(), &["replay", "f", "d"], b"begin @", b"")?;
+    expect(&rt, rt.alloc(), o, 3, b"", b"refused: BadByte at L1 C7\n")?;
+    Ok(())
+}
+
+#[test]
+fn a_bench(rt: HostRuntime) -> Result<(), Fail> {
+    let o = with_words(rt.alloc(), &["bench", "3"], b"", b"")?;
+    expect(
+        &rt,
+        rt.alloc(),
+        o,
+        0,
+        b"variables 9\npoints 19\nrounds 2\nblocks 3\nlargest 3\nrows 0\n",
+        b"",
+    )?;
     Ok(())
 }

@@ -3,18 +3,18 @@ ghost use Rattle.std.specs.Prelude.{◌≡◌, Err};
 ghost use Rattle.interproc_top.specs.Call.{Completes, End, Ends, Says, Tells, status_at};
 ghost use Rattle.interproc_top.specs.Cause.{line_of};
 
-use crate::analysis::{Options, Report};
-use crate::cause::{Cause, Status, Verdict};
-use crate::command::names_a_file;
-use crate::stages::report_of;
-use spl_io::{Files, ReadAllError, Sink, Words, read_all, write_all};
+use crate::cause::{Cause, Status};
+use crate::command::{Output, output_of};
+use command_words::{WordsFault, law_limits, read_words};
+use spl_io::{Files, Sink, Words, write_all};
 use spl_parser::law_one_tree;
+use spl_runs::law_choices;
 use spl_text::law_one_cut_or_fault;
 use std::alloc::Global;
 
-/// Does all that the program does: reads the file that the words name, and writes its report to `out`.
+/// Does all that the program does: what the words ask for, with its output to `out`.
 ///
-/// The report is made whole before the first write to `out`. Where the call ends early, one line goes to `err`.
+/// The output is made whole before the first write to `out`. Where the call ends early, one line goes to `err`.
 pub fn run<F: Files, O: Sink, E: Sink>(
     alloc: Global,
     words: &Words,
@@ -26,25 +26,29 @@ pub fn run<F: Files, O: Sink, E: Sink>(
     ensures answer { (end : End) × (result ≡ status_at end)
         × Ends end (record {
           words = words.now;
-          files = F.files files.old;
-          open_before = F.open_faults files.old;
-          open_now = F.open_faults files.new;
-          read_before = F.read_faults files.old;
-          read_now = F.read_faults files.new;
+          reading = record {
+            files = F.files files.old;
+            open_before = F.open_faults files.old;
+            open_now = F.open_faults files.new;
+            read_before = F.read_faults files.old;
+            read_now = F.read_faults files.new;
+          };
           write_before = O.faults out.old;
           write_now = O.faults out.new;
           out_before = O.written out.old;
           out_now = O.written out.new;
         })
         × Says end (E.faults err.old) (E.faults err.new) (E.written err.old) (E.written err.new) }
-    // Where the outside is fair, the answer is the one that the file calls for.
+    // Where the outside is fair, the answer is the one that the words and the files call for.
     ensures complete { Completes result (record {
       words = words.now;
-      files = F.files files.old;
-      open_before = F.open_faults files.old;
-      open_now = F.open_faults files.new;
-      read_before = F.read_faults files.old;
-      read_now = F.read_faults files.new;
+      reading = record {
+        files = F.files files.old;
+        open_before = F.open_faults files.old;
+        open_now = F.open_faults files.new;
+        read_before = F.read_faults files.old;
+        read_now = F.read_faults files.new;
+      };
       write_before = O.faults out.old;
       write_now = O.faults out.new;
       out_before = O.written out.old;
@@ -55,8 +59,9 @@ pub fn run<F: Files, O: Sink, E: Sink>(
 {
     law_one_cut_or_fault();
     law_one_tree();
+    law_choices();
     match work(alloc, words, files, out) {
-        Ok(verdict) => verdict.status(),
+        Ok(status) => status,
         Err(cause) => {
             tell(err, cause);
             cause.status()
@@ -64,20 +69,22 @@ pub fn run<F: Files, O: Sink, E: Sink>(
     }
 }
 
-/// Writes the report of the named file, or says what ended that first.
+/// Writes the output of what the words ask for, or says what ended that first.
 fn work<F: Files, O: Sink>(
     alloc: Global,
     words: &Words,
     files: &mut F,
     out: &mut O,
-) -> Result<Verdict, Cause>
+) -> Result<Status, Cause>
     ensures ends { Ends result (record {
       words = words.now;
-      files = F.files files.old;
-      open_before = F.open_faults files.old;
-      open_now = F.open_faults files.new;
-      read_before = F.read_faults files.old;
-      read_now = F.read_faults files.new;
+      reading = record {
+        files = F.files files.old;
+        open_before = F.open_faults files.old;
+        open_now = F.open_faults files.new;
+        read_before = F.read_faults files.old;
+        read_now = F.read_faults files.new;
+      };
       write_before = O.faults out.old;
       write_now = O.faults out.new;
       out_before = O.written out.old;
@@ -86,22 +93,18 @@ fn work<F: Files, O: Sink>(
     ensures opens_nothing { result ≡ Err Cause.Usage → files.new ≡ files.old }
     ensures same_files { F.files files.new ≡ F.files files.old }
 {
-    if !names_a_file(words) {
-        return Err(Cause::Usage);
-    }
-    let bytes = match read_all(alloc, files, words, 0) {
-        Ok(bytes) => bytes,
-        Err(ReadAllError::CannotOpen) => return Err(Cause::CannotOpen),
-        Err(ReadAllError::ReadFault) => return Err(Cause::ReadFault),
-        Err(ReadAllError::TooLong) => return Err(Cause::TooLong),
-        Err(ReadAllError::NoMemory) => return Err(Cause::NoMemory),
+    law_limits();
+    let command = match read_words(alloc, words.as_slice()) {
+        Ok(command) => command,
+        Err(WordsFault::Usage) => return Err(Cause::Usage),
+        Err(WordsFault::NoMemory) => return Err(Cause::NoMemory),
     };
-    let Report { text, verdict } = match report_of(alloc, &bytes, Options::usual()) {
-        Ok(report) => report,
+    let Output { text, status } = match output_of(alloc, &command, files) {
+        Ok(output) => output,
         Err(cause) => return Err(cause),
     };
     match write_all(out, &text) {
-        Ok(()) => Ok(verdict),
+        Ok(()) => Ok(status),
         Err(_) => Err(Cause::WriteFault),
     }
 }
