@@ -166,15 +166,15 @@ closed-even n bs cs ms ns rs ps v l h e = (t, even-tight n (assembly n bs ms) (a
     t : tight (assembly n bs ms) ≡ Some (assembly n cs rs)
     t = tight-assembly n bs ms ns ps (λ b p. h.1 b (let z = ps.count in omega arith)) ∙ ap Some (sym e)
 
-pub closed-is : (n : ℕ) (a : Blocks) (m : Matrix) (ps : List (List ℕ)) (rs : List Matrix) (known again : List Bool) (old new : ℕ) → tight (whole n a) ≡ Some m → IsCut n m ps rs → TellsMarks a ps rs known → TellsAgain rs again → new ≤ old + unmarked_cost rs known
-    → IsClosedValue n a (Some (blocks_of ps rs again)) old new
-closed-is n a m ps rs known again old new t c told g bound = record {
+pub closed-is : (n : ℕ) (a : Blocks) (m : Matrix) (ps : List (List ℕ)) (rs : List Matrix) (known again : List Bool) (old new : ℕ) (v : Decomposed) → tight (whole n a) ≡ Some m → IsCut n m ps rs → TellsMarks a ps rs known → TellsAgain rs again → new ≤ old + unmarked_cost rs known
+    → v ≡ decomposed n (Some (blocks_of ps rs again)) → IsClosedValue n a v.blocks old new
+closed-is n a m ps rs known again old new v t c told g bound e = subst (λ (d : Decomposed). IsClosedValue n a d.blocks old new) (sym e) (record {
   closed = t ∙ ap Some (sym c.same);
   again = g;
   second = unmarked_cost rs known;
   cost = record { known = known; told = told; sum = refl };
   bound = bound;
-}
+})
 
 pub bottom-end : (n : ℕ) (m : Matrix) → tight m ≡ None → bottom_value n ≡ octagon_of n (tight m)
 unfolding bottom_value

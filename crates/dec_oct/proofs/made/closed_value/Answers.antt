@@ -3,9 +3,8 @@ use Rattle.oct_def.specs.Bound.{InRange}
 use Rattle.oct_def.specs.Table.{at}
 use Rattle.oct_def.specs.Matrix.{IsEvenMatrix}
 use Rattle.block_laws.specs.Assembly.{matrix, assembly}
-use Rattle.dec_oct.specs.Value.{Decomposed, blocks_of}
+use Rattle.dec_oct.specs.Value.{blocks_of}
 use Rattle.dec_oct.specs.Cost.{TellsMarks, TellsAgain, unmarked_cost}
-use Rattle.dec_oct.specs.Closed.{IsClosedValue}
 use Rattle.dec_oct.proofs.Assembled.{coherent-assembly}
 use Rattle.dec_oct.proofs.Flags.{again-settled}
 use Rattle.dec_oct.proofs.Results.{given-parts, given-shape, loose-low, closed-parts, closed-strong, closed-even, closed-is, made-is, room-of, in_range-blocks}
@@ -82,5 +81,4 @@ returns-clause-value c =
     (subst (λ x. TellsMarks (blocks_of g.partition c.deref-2.result.now x) made.partition made.matrices.items known) c.deref-3.ensures.value c.in_ok-known.ensures) in
     let bound : new ≤ old + unmarked_cost made.matrices.items known = subst (λ x. new ≤ old + unmarked_cost x known) c.deref-4.ensures.value
     (subst (λ x. new ≤ old + unmarked_cost c.deref-4.result.now x) c.deref-5.ensures.value c.second_marks.ensures.count) in
-    subst (λ o. IsClosedValue c.args.dims a o old new) (sym (ap (λ (d : Decomposed). d.blocks) c.in_ok-v.ensures))
-    (closed-is c.args.dims a _ _ _ known again old new r.0 c.in_ok-made.ensures told t bound)
+    closed-is c.args.dims a _ _ _ known again old new _ r.0 c.in_ok-made.ensures told t bound c.in_ok-v.ensures

@@ -10,9 +10,9 @@ use Rattle.dec_oct.specs.Value.{blocks_of, marked}
 use Rattle.dec_oct.specs.Given.{IsEvenGiven}
 use Rattle.dec_oct.proofs.tests.one_part.Goals as goal
 
-one-given : (n : ℕ) (bs : List (List ℕ)) (ms : List Matrix) (marks : List Bool) (m : Matrix) → IsPartition 512 bs → length bs ≡ 1 → length (block bs 0) ≡ n → ((i : ℕ) → i < length (block bs 0) → member (block bs 0) i < n)
-    → ms ≡ m ∷ [] → marks ≡ false ∷ [] → IsEvenMatrix n m → IsEvenGiven n (blocks_of bs ms marks)
-one-given n bs ms marks m pt one size below e f v = record {
+one-given : (n : ℕ) (bs : List (List ℕ)) (xs ms : List Matrix) (fs marks : List Bool) (m : Matrix) → IsPartition 512 bs → length bs ≡ 1 → length (block bs 0) ≡ n → ((i : ℕ) → i < length (block bs 0) → member (block bs 0) i < n)
+    → xs ≡ [] → ms ≡ xs ++ m ∷ [] → fs ≡ [] → marks ≡ fs ++ false ∷ [] → IsEvenMatrix n m → IsEvenGiven n (blocks_of bs ms marks)
+one-given n bs xs ms fs marks m pt one size below e0 e1 f0 f1 v = record {
   given = record {
     partition = record { blocks = λ b p. subst (λ t. IsBlock n (block bs t)) (zero b p) (record { below = below; rising = (pt.blocks 0 (omega arith)).rising }); homes = pt.homes };
     count = ap length e ∙ sym one;
@@ -29,6 +29,12 @@ one-given n bs ms marks m pt one size below e f v = record {
   even = λ c p. subst (λ t. (i : ℕ) → IsEven (at t i (opposite i))) (sym (words c p)) v.even;
 }
   where
+    e : ms ≡ m ∷ []
+    e = e1 ∙ ap (λ ys. ys ++ m ∷ []) e0
+
+    f : marks ≡ false ∷ []
+    f = f1 ∙ ap (λ ys. ys ++ false ∷ []) f0
+
     zero : (b : ℕ) → b < length bs → 0 ≡ b
     zero b p = omega arith
 
@@ -41,7 +47,6 @@ returns-clause-given g c =
     let n = length c.args.variables.now in
     let one : c.len.result ≡ 1 = search rules in
     let size : length c.block-members.result.now ≡ n = search rules in
-    one-given n bs c.push.new.self.items c.push-2.new.self.items c.in_ok-matrix.matrix c.known.ensures.partition (sym c.len.ensures.count ∙ one) (ap length (sym c.block-members.ensures) ∙ size)
+    one-given n bs _ _ _ _ c.in_ok-matrix.matrix c.known.ensures.partition (sym c.len.ensures.count ∙ one) (ap length (sym c.block-members.ensures) ∙ size)
     (subst (λ vs. (i : ℕ) → i < length vs → member vs i < n) c.block-members.ensures c.expect_below-2.ensures)
-    (c.in_ok-push.ensures.items ∙ ap (λ ms. ms ++ c.in_ok-matrix.matrix ∷ []) c.new-matrices.ensures.items) (c.in_ok-push-2.ensures.items ∙ ap (λ marks. marks ++ false ∷ []) c.new-settled.ensures.items)
-    c.in_ok-matrix.ensures
+    c.new-matrices.ensures.items c.in_ok-push.ensures.items c.new-settled.ensures.items c.in_ok-push-2.ensures.items c.in_ok-matrix.ensures
