@@ -8,14 +8,6 @@ use Rattle.block_laws.proofs.Components.{same_block-sym}
 use Rattle.dec_oct.proofs.Bounded.{merged-partition}
 use Rattle.dec_lattice.specs.Coarser.{AreTogether, IsCoarser}
 
-pub coarser-start : (n : ℕ) (bs cs ds : List (List ℕ)) → IsPartition n bs → ds ≡ bs → IsCoarser n bs cs 0 ds
-coarser-start n bs cs ds p e = subst (IsCoarser n bs cs 0) (sym e) (record {
-  partition = p;
-  first = λ u w i j s. s;
-  second = λ u w i j s h. absurd (omega arith);
-  finest = λ es f g u w i j s. f u w i j s;
-})
-
 -- a member of block k
 in-kth : (cs : List (List ℕ)) (vs : List ℕ) (k u : ℕ) → vs ≡ block cs k → home cs u ≡ k → k < length cs → IsIn vs u
 in-kth cs vs k u e f h = subst (λ t. IsIn t u) (ap (block cs) f ∙ sym e) (home_in cs u (omega arith))

@@ -4,4 +4,3 @@ pub mod Overs
 pub mod Coarsers
 pub mod Marked
 pub mod Values
-pub mod Single

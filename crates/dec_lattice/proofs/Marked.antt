@@ -16,7 +16,7 @@ use Rattle.block_laws.proofs.Components.{linked-same}
 use Rattle.block_laws.proofs.Lattice.{at-block}
 use Rattle.dec_oct.specs.Value.{Blocks, blocks_of, whole, marked, IsSettled, IsDecomposition}
 use Rattle.dec_oct.specs.Given.{IsEvenGiven, KeepsMarks}
-use Rattle.dec_oct.proofs.Flags.{IsFlagged, marked-again}
+use Rattle.dec_oct.proofs.Flags.{marked-again}
 use Rattle.dec_oct.proofs.Results.{in_range-blocks}
 use Rattle.dec_lattice.specs.declared.operation.Operation.{Operation}
 use Rattle.dec_lattice.specs.Operation.{combined_matrix}
@@ -24,11 +24,7 @@ use Rattle.dec_lattice.specs.Over.{IsOver}
 use Rattle.dec_lattice.specs.Marks.{IsEither, TellsEither, KeepsEither}
 use Rattle.dec_lattice.proofs.Parts.{length-combined, combined-self, restrict-combined, combined-parts, even-combined, even-part}
 
--- ---- which parts are marked blocks of either side
-
-pub either-told : (a b : Blocks) (bs : List (List ℕ)) (ms : List Matrix) (c : ℕ) (xs : List Bool) → IsFlagged (λ k. IsEither a b (block bs k) (matrix ms k)) c xs → c ≡ length bs → TellsEither a b bs ms xs
-either-told a b bs ms c xs s e = record { size = s.size ∙ e; exact = λ k p. s.exact k (omega arith) }
-
+-- the marks of parts that are marked blocks of either side are true
 either-settled : (a b : Blocks) (bs : List (List ℕ)) (ms : List Matrix) (xs : List Bool) → length a.matrices ≡ length a.partition → length b.matrices ≡ length b.partition → IsSettled a.matrices a.marks → IsSettled b.matrices b.marks → length ms ≡ length bs → TellsEither a b bs ms xs → IsSettled ms xs
 either-settled a b bs ms xs ca cb sa sb f t = record { again = λ k p g. by k ((t.exact k (omega arith)).0 g) }
   where
@@ -105,7 +101,7 @@ same-block n bs cs b c pb pc h g to from = rising-unique (block bs b) (block cs 
           subst (λ z. IsIn (block ys z) u) e (home_in ys u (omega arith));
     }
 
-pub record IsPlaceOf (ds : List (List ℕ)) (vs : List ℕ) : Type 0 where
+record IsPlaceOf (ds : List (List ℕ)) (vs : List ℕ) : Type 0 where
   pub place : ℕ
   pub within : place < length ds
   pub members : block ds place ≡ vs

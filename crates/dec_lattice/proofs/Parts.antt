@@ -26,7 +26,7 @@ pub length-combined : (op : Operation) (a b : Matrix) → length (combined_matri
 unfolding combined_matrix
 length-combined op a b = length-table (length a) (combined_entry op a b)
 
-pub square-combined : (op : Operation) (a b : Matrix) → IsSquare (combined_matrix op a b)
+square-combined : (op : Operation) (a b : Matrix) → IsSquare (combined_matrix op a b)
 unfolding combined_matrix
 square-combined op a b = square-table (length a) (combined_entry op a b)
 
@@ -71,11 +71,11 @@ combined-parts op n ds a b ms e pt sep size each = (
 
 -- ---- values
 
-pub combined-join : (a b : Matrix) → combined_matrix Join a b ≡ join_matrix a b
+combined-join : (a b : Matrix) → combined_matrix Join a b ≡ join_matrix a b
 unfolding combined_matrix combined_entry join_matrix join_entry
 combined-join a b = refl
 
-pub combined-widen : (a b : Matrix) → combined_matrix Widening a b ≡ widen_matrix a b
+combined-widen : (a b : Matrix) → combined_matrix Widening a b ≡ widen_matrix a b
 unfolding combined_matrix combined_entry widen_matrix widen_entry
 combined-widen a b = refl
 

@@ -10,7 +10,7 @@ use block_partition::Partition;
 use dec_oct::{DecOct, Parts};
 use half_matrix::{HalfBuf, HalfMatrix};
 use minplus_lanes::RowCount;
-use oct_def::{NONE, evened_word, greatest_word, narrowed_word, opposite, widened_word};
+use oct_def::{LIMIT, NONE, evened_word, greatest_word, narrowed_word, opposite, widened_word};
 use std::alloc::Global;
 use std::process::Abort;
 use std::test::Fail;
@@ -18,34 +18,159 @@ use std::test::Fail;
 /// The number of variables of each value.
 const DIMS: u32 = 5;
 
+/// A bound on V_j - V_i.
+type Constraint = (u32, u32, i64);
+
+/// The three calls.
+#[derive(Clone, Copy, Debug, PartialEq, Eq)]
+enum Call {
+    Join,
+    Widen,
+    Narrow,
+}
+
+/// The bounds of two values, and the blocks and all bounds of what a call makes of them, of twins only one.
+struct Row {
+    name: &'static str,
+    call: Call,
+    first: &'static [Constraint],
+    second: &'static [Constraint],
+    blocks: &'static [&'static [u32]],
+    bounds: &'static [Constraint],
+}
+
+const ROWS: [Row; 6] = [
+    Row {
+        name: "both are 0 or both are 1",
+        call: Call::Join,
+        first: &[
+            (0, 1, 0),
+            (1, 0, 0),
+            (2, 3, 0),
+            (3, 2, 0),
+            (0, 2, 0),
+            (2, 0, 0),
+            (1, 2, 0),
+            (0, 3, 0),
+        ],
+        second: &[
+            (0, 1, -2),
+            (1, 0, 2),
+            (2, 3, -2),
+            (3, 2, 2),
+            (0, 2, 0),
+            (2, 0, 0),
+            (1, 2, 2),
+            (0, 3, -2),
+        ],
+        blocks: &[&[0, 1]],
+        bounds: &[
+            (0, 1, 0),
+            (1, 0, 2),
+            (2, 3, 0),
+            (3, 2, 2),
+            (0, 2, 0),
+            (2, 0, 0),
+            (1, 2, 2),
+            (0, 3, 0),
+        ],
+    },
+    Row {
+        name: "a join keeps what both relate, though their blocks differ",
+        call: Call::Join,
+        first: &[(0, 2, 1), (2, 4, 3)],
+        second: &[(0, 2, 4), (2, 6, 0)],
+        blocks: &[&[0, 1]],
+        bounds: &[(0, 2, 4)],
+    },
+    Row {
+        name: "a join of values that relate different variables",
+        call: Call::Join,
+        first: &[(0, 2, 1)],
+        second: &[(2, 4, 1)],
+        blocks: &[],
+        bounds: &[],
+    },
+    Row {
+        name: "a widening loses what rose, and splits a block",
+        call: Call::Widen,
+        first: &[(0, 2, 1), (2, 4, 3), (4, 6, 5)],
+        second: &[(0, 2, 0), (2, 4, 4), (4, 6, 5)],
+        blocks: &[&[0, 1], &[2, 3]],
+        bounds: &[(0, 2, 1), (4, 6, 5)],
+    },
+    Row {
+        name: "a narrowing takes what was lost, and merges blocks",
+        call: Call::Narrow,
+        first: &[(0, 2, 1), (4, 6, 5)],
+        second: &[(0, 2, 0), (2, 4, 4), (8, 9, -2)],
+        blocks: &[&[0, 1, 2, 3], &[4]],
+        bounds: &[(0, 2, 1), (2, 4, 4), (4, 6, 5), (8, 9, -2)],
+    },
+    Row {
+        name: "blocks that a later block of the second value joins",
+        call: Call::Narrow,
+        first: &[(0, 6, 1), (2, 4, 2)],
+        second: &[(8, 9, 0), (4, 6, 3)],
+        blocks: &[&[0, 1, 2, 3], &[4]],
+        bounds: &[(0, 6, 1), (2, 4, 2), (4, 6, 3), (8, 9, 0)],
+    },
+];
+
 /// The next number after a seed.
 fn next(seed: u64) -> u64 {
     seed.wrapping_mul(6364136223846793005)
         .wrapping_add(1442695040888963407)
 }
 
-/// A bound from a number: mostly none, else small and even.
-fn word_from(seed: u64) -> i64
-    ensures { IsWord result }
-{
+/// A bound from a number: mostly none, else small and even; 0 on the diagonal.
+fn constraint_from(i: u32, j: u32, seed: u64) -> Constraint {
     let k = seed >> 33;
+    if i == j {
+        return (i, j, 0);
+    }
     if k % 10 != 0 {
-        return NONE;
+        return (i, j, NONE);
     }
     let bound = (k / 10 % 9) as i64 - 2;
-    2 * bound
+    (i, j, 2 * bound)
 }
 
-/// An entry off the diagonal becomes a bound from the seed.
-fn constrain(m: &mut HalfBuf, i: u32, j: u32, seed: u64)
-    requires row { i < length m.old }
-    requires column { j < length m.old }
+/// The word of a bound moved outward into the limits.
+fn word_within(bound: i64) -> i64
+    ensures { IsWord result }
+{
+    if bound > LIMIT {
+        return NONE;
+    }
+    if bound < -LIMIT {
+        return -LIMIT;
+    }
+    bound
+}
+
+/// The bound becomes the entry; outside the matrix nothing changes.
+fn constrain(m: &mut HalfBuf, constraint: Constraint)
     requires in_range { (i j : ℕ) → InRange (at m.old i j) }
     ensures in_range { (i j : ℕ) → InRange (at m.new i j) }
     ensures rows { length m.new ≡ length m.old }
 {
-    if i != j {
-        m.set(i, j, word_from(seed));
+    let (i, j, bound) = constraint;
+    let size = 2 * m.vars();
+    if i < size {
+        if j < size {
+            m.set(i, j, word_within(bound));
+        }
+    }
+}
+
+fn constrain_all(m: &mut HalfBuf, constraints: &[Constraint])
+    requires in_range { (i j : ℕ) → InRange (at m.old i j) }
+    ensures in_range { (i j : ℕ) → InRange (at m.new i j) }
+    ensures rows { length m.new ≡ length m.old }
+{
+    for k in 0..constraints.len() {
+        constrain(m, constraints[k]);
     }
 }
 
@@ -60,7 +185,7 @@ fn fill(m: &mut HalfBuf, first: u64) -> u64
     'rows: for i in 0..size {
         'columns: for j in 0..size {
             seed = next(seed);
-            constrain(m, i, j, seed);
+            constrain(m, constraint_from(i, j, seed));
         }
     }
     seed
@@ -100,7 +225,7 @@ fn are_below(members: &[u32], dims: u32) -> bool
     true
 }
 
-/// The value of one block of all variables.
+/// The value of one part.
 fn value_of(alloc: Global, partition: Partition, matrix: HalfMatrix) -> Result<DecOct, NoMemory>
     requires one { length partition ≡ 1 }
     requires all { length (block partition 0) ≡ 5 }
@@ -121,21 +246,38 @@ fn value_of(alloc: Global, partition: Partition, matrix: HalfMatrix) -> Result<D
     Ok(v)
 }
 
-/// A value from a seed, and the next seed; one in eight is Bottom.
-fn value_from(rt: &impl Abort, alloc: Global, seed: u64) -> Result<(DecOct, u64), Fail> {
-    if seed >> 40 & 7 == 0 {
-        return Ok((DecOct::bottom(DIMS), next(seed)));
-    }
+/// The value with a matrix.
+fn value_with(rt: &impl Abort, alloc: Global, matrix: HalfMatrix) -> Result<DecOct, Fail>
+    requires rows { length matrix ≡ 10 }
+    requires in_range { (i j : ℕ) → InRange (at matrix i j) }
+{
     let mut partition = Partition::new(alloc);
     partition.merge(&[0, 1, 2, 3, 4])?;
-    let mut matrix = HalfMatrix::top(alloc, DIMS)?;
-    let seed = fill(matrix.writing(alloc)?, seed);
     assert!(rt; has_zero_diagonal(matrix.buf()));
     assert!(rt; has_even_bounds(matrix.buf()));
     assert_eq!(rt; partition.len(), 1);
     assert_eq!(rt; partition.block(0).len(), 5);
     assert!(rt; are_below(partition.block(0), DIMS));
     let v = value_of(alloc, partition, matrix)?;
+    Ok(v)
+}
+
+/// The value with some bounds.
+fn value_in(rt: &impl Abort, alloc: Global, bounds: &[Constraint]) -> Result<DecOct, Fail> {
+    let mut matrix = HalfMatrix::top(alloc, DIMS)?;
+    constrain_all(matrix.writing(alloc)?, bounds);
+    let v = value_with(rt, alloc, matrix)?;
+    Ok(v)
+}
+
+/// A value from a seed, and the next seed; one in eight is Bottom.
+fn value_from(rt: &impl Abort, alloc: Global, seed: u64) -> Result<(DecOct, u64), Fail> {
+    if seed >> 40 & 7 == 0 {
+        return Ok((DecOct::bottom(DIMS), next(seed)));
+    }
+    let mut matrix = HalfMatrix::top(alloc, DIMS)?;
+    let seed = fill(matrix.writing(alloc)?, seed);
+    let v = value_with(rt, alloc, matrix)?;
     Ok((v, seed))
 }
 
@@ -155,14 +297,6 @@ fn words_of(alloc: Global, v: &DecOct) -> Result<Vec<i64>, Fail> {
         }
     }
     Ok(words)
-}
-
-/// The three calls.
-#[derive(Clone, Copy, Debug, PartialEq, Eq)]
-enum Call {
-    Join,
-    Widen,
-    Narrow,
 }
 
 /// What a call makes of two words, by its definition.
@@ -254,6 +388,52 @@ fn calls_give_the_entries_of_the_definitions(rt: HostRuntime) -> Result<(), Fail
             let same = called(&rt, alloc, call, &closed, &closed, from)?;
             expect_marks(&rt, &same, call, from);
         }
+    }
+    Ok(())
+}
+
+/// The word of one of some bounds, or of its twin.
+fn word_among(bounds: &[Constraint], i: u32, j: u32) -> i64 {
+    let column = opposite(i as usize) as u32;
+    let row = opposite(j as usize) as u32;
+    for bound in bounds {
+        if (bound.0 == i && bound.1 == j) || (bound.0 == row && bound.1 == column) {
+            return bound.2;
+        }
+    }
+    if i == j { 0 } else { NONE }
+}
+
+/// Asserts that a value has these blocks and these bounds.
+fn expect_bounds(rt: &impl Abort, v: &DecOct, row: &Row) {
+    v.known();
+    assert_eq!(rt; v.blocks() as usize, row.blocks.len(), "{}", row.name);
+    match v.partition() {
+        None => assert!(rt; false, "{}", row.name),
+        Some(p) => {
+            'blocks: for b in 0..p.len() {
+                assert!(rt; (b as usize) < row.blocks.len());
+                assert_eq!(rt; p.block(b), row.blocks[b as usize], "{}", row.name);
+            }
+            let size = 2 * v.dims();
+            'rows: for i in 0..size {
+                'columns: for j in 0..size {
+                    let word = word_among(row.bounds, i, j);
+                    assert_eq!(rt; v.entry(i, j), word, "{} at {i}, {j}", row.name);
+                }
+            }
+        }
+    }
+}
+
+#[test]
+fn worked_calls(rt: HostRuntime) -> Result<(), Fail> {
+    let alloc = rt.alloc();
+    for row in &ROWS {
+        let a = value_in(&rt, alloc, row.first)?;
+        let b = value_in(&rt, alloc, row.second)?;
+        let made = called(&rt, alloc, row.call, &a, &b, 0)?;
+        expect_bounds(&rt, &made, row);
     }
     Ok(())
 }

@@ -7,5 +7,5 @@ use Rattle.dec_lattice.proofs.tests.value_from.Goals as goal
 pub fill-seed-requires : goal.fill-seed-requires
 fill-seed-requires g c = record { in_range = λ i j. subst (λ (m : Matrix). InRange (at m i j)) (sym (c.in_ok-writing.ensures.same ∙ c.in_ok-matrix.ensures)) (in_range-top 5 i j) }
 
-pub value_of-requires-clause-rows : goal.value_of-requires-clause-rows
-value_of-requires-clause-rows g c = c.fill-seed.ensures.rows ∙ ap length (c.in_ok-writing.ensures.same ∙ c.in_ok-matrix.ensures) ∙ length-top 5
+pub value_with-requires-clause-rows : goal.value_with-requires-clause-rows
+value_with-requires-clause-rows g c = c.fill-seed.ensures.rows ∙ ap length (c.in_ok-writing.ensures.same ∙ c.in_ok-matrix.ensures) ∙ length-top 5
