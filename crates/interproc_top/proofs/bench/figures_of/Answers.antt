@@ -11,8 +11,11 @@ read-requires c =
 pub components-requires : goal.components-requires
 components-requires c =
     let o = c.usual-options.result in
-    exit-dims c.law_sizes.ensures c.in_ok-built.built.core c.in_ok-solution.solution o.delay o.descend c.procs.result c.proc_at-main.result _
-    c.procs.ensures.known c.in_ok-solution.ensures.solution c.procs.ensures.count c.proc_at-main.ensures.found c.in_ok-last.ensures.value
+    record {
+      dims =
+          exit-dims c.law_sizes.ensures c.in_ok-built.built.core c.in_ok-solution.solution o.delay o.descend c.procs.result c.proc_at-main.result _
+          c.procs.ensures.known c.in_ok-solution.ensures.solution c.procs.ensures.count c.proc_at-main.ensures.found c.in_ok-last.ensures.value;
+    }
 
 pub returns : goal.returns
 returns c =
