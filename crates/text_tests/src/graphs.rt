@@ -4,12 +4,9 @@ ghost use Rattle.std.specs.Prelude.{◌≡◌};
 ghost use Rattle.spl_core.specs.Graph.{graph_of};
 ghost use Rattle.call_graph.specs.Tables.{tables_of};
 
+use crate::texts::core_in;
 use call_graph::{Graph, graph};
-use control_points::core_of;
 use spl_core::Core;
-use spl_parser::parse;
-use spl_text::tokens;
-use spl_types::check;
 use std::alloc::{AllocError, Global};
 use std::test::Fail;
 
@@ -44,36 +41,12 @@ fn graph_text(alloc: Global, core: &Core, graph: &Graph) -> Result<String, Alloc
     Ok(line)
 }
 
-fn answer(alloc: Global, text: &[u8]) -> Result<String, AllocError> {
-    if text.len() > 1 << 20 {
-        return Ok(String::new(alloc));
-    }
-    let list = match tokens(alloc, text) {
-        Ok(list) => list,
-        Err(fault) => return format!(in alloc; "{fault}"),
-    };
-    let tree = match parse(alloc, text, &list) {
-        Ok(tree) => tree,
-        Err(fault) => return format!(in alloc; "{fault}"),
-    };
-    let checked = match check(alloc, &tree) {
-        Ok(checked) => checked,
-        Err(fault) => return format!(in alloc; "{fault}"),
-    };
-    let built = match core_of(alloc, &checked) {
-        Ok(built) => built,
-        Err(_) => return format!(in alloc; "no memory"),
-    };
-    match graph(alloc, &built.core) {
-        Ok(found) => graph_text(alloc, &built.core, &found),
-        Err(_) => format!(in alloc; "no memory"),
-    }
-}
-
 #[test]
 fn points_are_ordered(rt: HostRuntime) -> Result<(), Fail> {
     for (text, want) in GRAPHS {
-        let given = answer(rt.alloc(), text.as_bytes())?;
+        let core = core_in(rt.alloc(), text.as_bytes())?;
+        let found = graph(rt.alloc(), &core)?;
+        let given = graph_text(rt.alloc(), &core, &found)?;
         assert_eq!(&rt; given.as_str(), want);
     }
     Ok(())

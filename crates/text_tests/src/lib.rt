@@ -10,3 +10,9 @@ mod cores;
 mod graphs;
 #[cfg(test)]
 mod prints;
+#[cfg(test)]
+mod runs;
+#[cfg(test)]
+mod texts;
+#[cfg(test)]
+mod values;
