@@ -262,6 +262,17 @@ fn refusals(rt: HostRuntime) -> Result<(), Fail> {
     Ok(())
 }
 
+/// Words of no form.
+const NO_FORM: [&[&str]; 7] = [
+    &["f", "f"],
+    &[],
+    &["--delay", "1001", "f"],
+    &["--domain", "zone", "f"],
+    &["--delay", "1", "--delay", "1", "f"],
+    &["bench", "43"],
+    &["replay", "f"],
+];
+
 #[test]
 fn words_of_no_form_and_missing_files(rt: HostRuntime) -> Result<(), Fail> {
     let usage: &[u8] =
@@ -270,15 +281,7 @@ fn words_of_no_form_and_missing_files(rt: HostRuntime) -> Result<(), Fail> {
         let o = with_file(rt.alloc(), word, b"begin end")?;
         expect(&rt, rt.alloc(), o, 2, b"", usage)?;
     }
-    for words in [
-        ["f", "f"].as_slice(),
-        [].as_slice(),
-        ["--delay", "1001", "f"].as_slice(),
-        ["--domain", "zone", "f"].as_slice(),
-        ["--delay", "1", "--delay", "1", "f"].as_slice(),
-        ["bench", "43"].as_slice(),
-        ["replay", "f"].as_slice(),
-    ] {
+    for words in NO_FORM {
         let o = with_words(rt.alloc(), words, b"begin end", b"")?;
         expect(&rt, rt.alloc(), o, 2, b"", usage)?;
     }
