@@ -2,11 +2,11 @@
 use Rattle.std.proofs.Common.{◌≡◌, ℕ, ◌+◌, ◌<◌, ◌≤◌, ◌⊎◌, inl, inr, Bool, true, false, List, [], length, set, refl, sym, ap, ◌∙◌, subst, arith, replicate, zero, suc, Option, Some, None}
 use Rattle.std.specs.Prelude.{◌↔◌}
 use Rattle.std.proofs.lemmas.Bool.{eq-eqb, ne_eqb, lt-ltb, le-ltb, both_ways, cond-true, cond-false, cases_lt, cases_eq, cases_Bool}
-use Rattle.std.proofs.lemmas.List.{get_or-set_same, get_or-set_other, length-set}
+use Rattle.std.proofs.lemmas.List.{get_or-set_same, get_or-set_other, get_or_past, length-set}
 use Rattle.block_partition.specs.Partition.{member, block, home, place, SameBlock, IsBlock, IsPartition, IsOrdered}
-use Rattle.block_partition.specs.Changes.{IsNear, IsMergedBy, leaving, label_of, IsSplitPair, IsSplitBy, IsMeetOf}
+use Rattle.block_partition.specs.Changes.{IsNear, IsMergedBy, leaving, label_of, IsSplitPair, IsSplitBy, IsMeetOf, given_label, IsGroupedBy}
 use Rattle.block_partition.specs.Grouping.{Label, Merged, Whole, Part, label, grouped, home_at, home_of, IsHomes}
-use Rattle.block_partition.specs.Relabelling.{plain_label, key, mark, IsMarked, merged_label, part_label, split_label, meet_label, IsLabelled, IsSpan}
+use Rattle.block_partition.specs.Relabelling.{plain_label, key, mark, IsMarked, merged_label, part_label, own_label, split_label, meet_label, IsLabelled, IsSpan}
 use Rattle.std.specs.List.Sorted.{IsBinarySearchResult}
 use Rattle.std.specs.Ordering.{nat_cmp}
 use Rattle.std.proofs.Common.{Result, Ok, Err}
@@ -442,3 +442,27 @@ pub split-rest : (bs cs : List (List ℕ)) (b : ℕ) (labels : List ℕ) (homes 
 split-rest bs cs b labels homes k e h q p =
     let r = subst (λ t. length t ≤ home t k) e (h.rest k p) in
     sym (split-other cs b k _ labels (λ t. absurd (omega arith)) (plain-none cs k r))
+
+-- ---- numbers that variables are given
+
+own-same : (a b : Option ℕ) → own_label a ≡ own_label b → a ≡ b
+own-same None None e = refl
+own-same None (Some y) e = absurd (none_some (Whole y) e)
+own-same (Some x) None e = absurd (none_some (Whole x) (sym e))
+own-same (Some x) (Some y) e = let f : x ≡ y = cc in ap Some f
+
+own-none : (a : Option ℕ) → own_label a ≡ None → a ≡ None
+own-none None e = refl
+own-none (Some x) e = absurd (none_some (Whole x) (sym e))
+
+pub own-rest : (numbers : List (Option ℕ)) (v : ℕ) → length numbers ≤ v → own_label (given_label numbers v) ≡ None
+own-rest numbers v p = ap own_label (get_or_past numbers v None p)
+
+pub own-labels : (numbers : List (Option ℕ)) (ds : List (List ℕ)) (labels : List (Option Label)) → IsLabelled (λ v. own_label (given_label numbers v)) labels → ds ≡ grouped labels → IsGroupedBy numbers ds
+own-labels numbers ds labels h e = subst (IsGroupedBy numbers) (sym e) (record { exact = λ u w. (there u w, back u w) })
+  where
+    there : (u w : ℕ) → SameBlock (grouped labels) u w → (given_label numbers u ≡ given_label numbers w) × (given_label numbers u ≡ None → ⊥)
+    there u w s = let r = (same-labelled _ labels h u w).0 s in (own-same _ _ r.0, λ t. r.1 (ap own_label t))
+
+    back : (u w : ℕ) → (given_label numbers u ≡ given_label numbers w) × (given_label numbers u ≡ None → ⊥) → SameBlock (grouped labels) u w
+    back u w r = (same-labelled _ labels h u w).1 (ap own_label r.0, λ t. r.1 (own-none _ t))

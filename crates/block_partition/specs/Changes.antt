@@ -1,5 +1,5 @@
 -- The partitions that a merge, a split and a meet give, told by which variables share a block.
-use Rattle.std.specs.Prelude.{◌≡◌, ℕ, ◌<◌, ◌⊎◌, ◌↔◌, List, length}
+use Rattle.std.specs.Prelude.{◌≡◌, ℕ, ◌<◌, ◌⊎◌, ◌↔◌, Option, None, List, length, slice_index_or}
 use Rattle.block_partition.specs.Partition.{member, place, block, home, SameBlock}
 
 -- variables below 512
@@ -36,3 +36,11 @@ pub record IsSplitBy (bs : List (List ℕ)) (b : ℕ) (labels : List ℕ) (cs : 
 -- the intersections of blocks that aren't empty
 pub record IsMeetOf (xs ys : List (List ℕ)) (cs : List (List ℕ)) : Type 0 where
   pub exact : (u w : ℕ) → u < 512 → w < 512 → SameBlock cs u w ↔ (SameBlock xs u w × SameBlock ys u w)
+
+-- the number that a variable is given, if it is given one
+abbrev pub given_label : List (Option ℕ) → ℕ → Option ℕ
+given_label labels v = slice_index_or labels v None
+
+-- variables that are given one number are a block, and those that are given none are in none
+pub record IsGroupedBy (labels : List (Option ℕ)) (cs : List (List ℕ)) : Type 0 where
+  pub exact : (u w : ℕ) → SameBlock cs u w ↔ ((given_label labels u ≡ given_label labels w) × (given_label labels u ≡ None → ⊥))

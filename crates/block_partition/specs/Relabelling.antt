@@ -28,6 +28,11 @@ merged_label bs marks v = if mark marks (key bs v) then Some Merged else plain_l
 abbrev pub part_label : ℕ → ℕ → Option Label
 part_label b l = if nat_eq l leaving then None else Some (Part b l)
 
+-- the label that stands for a number that a variable is given
+abbrev pub own_label : Option ℕ → Option Label
+own_label None = None
+own_label (Some k) = Some (Whole k)
+
 unfoldable pub split_label : List (List ℕ) → ℕ → List ℕ → ℕ → Option Label
 split_label bs b labels v = if nat_eq (home bs v) b then part_label b (label_of bs b labels v) else plain_label bs v
 

@@ -1,12 +1,12 @@
 // Partitions: blocks in order, and for each variable the number of its block.
 ghost use Rattle.std.specs.Prelude.{◌≡◌, ◌<◌, ◌≤◌, [], IfOk, OnOk, OnErr, MatchOption, length};
 ghost use Rattle.block_partition.specs.Partition.{home, block as block_at, place, IsBlock, IsPartition, IsOrdered};
-ghost use Rattle.block_partition.specs.Changes.{AreVariables, IsMergedBy, IsSplitBy, IsMeetOf};
+ghost use Rattle.block_partition.specs.Changes.{AreVariables, IsMergedBy, IsSplitBy, IsMeetOf, IsGroupedBy};
 ghost use Rattle.block_partition.specs.Grouping.{grouped};
 ghost use Rattle.block_partition.specs.Relabelling.{key as key_of, plain_label as plain_label_of, merged_label as merged_label_of, split_label as split_label_of, meet_label as meet_label_of, IsMarked, IsSpan, IsLabelled};
 
 use crate::grouping::{Grouped, group_by};
-use crate::relabelling::{Label, part_label};
+use crate::relabelling::{Label, own_label, part_label};
 use memory::NoMemory;
 use std::alloc::Global;
 use std::marker::Model;
@@ -66,6 +66,19 @@ impl Partition {
             blocks,
             homes,
         })
+    }
+
+    /// The blocks of variables with one label; a variable without a label is in none. It takes time as a merge does.
+    pub fn by_labels(alloc: Global, labels: &[Option<u32>]) -> Result<Partition, NoMemory>
+        requires small { length labels.now ≤ 512 }
+        ensures { IfOk result (λ p. IsGroupedBy labels.now p) }
+    {
+        let mut made = Vec::new(alloc);
+        for v in 0..labels.len() {
+            made.push(own_label(labels[v]))?;
+        }
+        let p = Partition::from_labels(alloc, &made)?;
+        Ok(p)
     }
 
     /// The number of blocks.

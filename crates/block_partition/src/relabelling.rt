@@ -1,6 +1,6 @@
 // Labels of variables: two variables get one label exactly where they are to share a block.
 ghost use Rattle.std.specs.Prelude.{◌≡◌};
-ghost use Rattle.block_partition.specs.Relabelling.{part_label as label_of_part};
+ghost use Rattle.block_partition.specs.Relabelling.{part_label as label_of_part, own_label as label_of_own};
 
 /// What tells the blocks of a changed partition apart.
 #[derive(Clone, Copy, PartialEq, Eq, PartialOrd, Ord)]
@@ -22,5 +22,15 @@ pub(crate) fn part_label(b: u32, label: u32) -> Option<Label>
         None
     } else {
         Some(Label::Part(b, label))
+    }
+}
+
+/// The label of a variable that has a number of its own choice, or none.
+pub(crate) fn own_label(number: Option<u32>) -> Option<Label>
+    ensures { result ≡ label_of_own number }
+{
+    match number {
+        Some(k) => Some(Label::Whole(k)),
+        None => None,
     }
 }

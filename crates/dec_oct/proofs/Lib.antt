@@ -10,3 +10,5 @@ pub mod Assembled
 pub mod Cuts
 pub mod Results
 pub mod Words
+pub mod Givens
+pub mod Extended

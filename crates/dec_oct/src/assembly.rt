@@ -9,8 +9,8 @@ use block_partition::{Partition, place_of};
 use half_matrix::HalfMatrix;
 use oct_def::NONE;
 
-// The place in a block's matrix of a signed dimension of a member.
-fn inner_of(members: &[u32], i: u32) -> u32
+/// The place in a block's matrix of a signed dimension of a member.
+pub fn inner_of(members: &[u32], i: u32) -> u32
     requires block { IsBlock 512 members.now }
     requires small { length members.now ≤ 512 }
     requires member { place members.now (i / 2) < length members.now }

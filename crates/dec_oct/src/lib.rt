@@ -20,6 +20,9 @@ mod tests;
 mod value;
 mod walk;
 
+pub use assembly::inner_of;
 pub use memory::NoMemory;
+pub use parts::outer_of;
 pub use same::same_matrix;
+pub use tabulate::tabulated;
 pub use value::{DecOct, Parts};

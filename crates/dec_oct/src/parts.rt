@@ -16,8 +16,8 @@ use memory::NoMemory;
 use oct_def::{least_word, opposite, sum_of_halves};
 use std::alloc::Global;
 
-// The signed dimension of all variables that one of a block's matrix is.
-fn outer_of(members: &[u32], i: u32) -> u32
+/// The signed dimension of all variables that one of a block's matrix is.
+pub fn outer_of(members: &[u32], i: u32) -> u32
     requires place { i < 2 * length members.now }
     requires block { IsBlock 512 members.now }
     ensures { result ≡ outer members.now i }

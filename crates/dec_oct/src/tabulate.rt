@@ -25,7 +25,7 @@ fn fill<F: Fn(u32, u32) -> i64>(m: &mut HalfBuf, entry: F)
 }
 
 /// The matrix over so many variables whose stored entries are what `entry` makes of their rows and columns.
-pub(crate) fn tabulated<F: Fn(u32, u32) -> i64>(
+pub fn tabulated<F: Fn(u32, u32) -> i64>(
     alloc: Global,
     vars: u32,
     entry: F,

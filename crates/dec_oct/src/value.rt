@@ -1,5 +1,5 @@
 // Decomposed values, and what can be read of them.
-ghost use Rattle.std.specs.Prelude.{◌≡◌, ℕ, ◌*◌, ◌<◌, ◌≤◌, IfOk, IfSome, IsSome, MatchOption, length, Some, None, true, false};
+ghost use Rattle.std.specs.Prelude.{◌≡◌, ℕ, ◌+◌, ◌*◌, ◌<◌, ◌≤◌, IfOk, IfSome, IsSome, MatchOption, length, Some, None, true, false};
 ghost use Rattle.oct_def.specs.Bound.{bound_of};
 ghost use Rattle.oct_def.specs.Table.{at};
 ghost use Rattle.oct_def.specs.Octagon.{top_value, bottom_value, tight_value};
@@ -139,6 +139,18 @@ impl DecOct {
         let held = self.held.clone()?;
         Ok(DecOct {
             dims: self.dims,
+            held,
+        })
+    }
+
+    /// The same value over so many more dimensions, the last ones, which have no bounds. No matrix is copied.
+    pub fn extended(&self, added: u32) -> Result<DecOct, NoMemory>
+        requires few { self.now.dims + added ≤ 512 }
+        ensures { IfOk result (λ v. v ≡ decomposed (self.now.dims + added) self.now.blocks) }
+    {
+        let held = self.held.clone()?;
+        Ok(DecOct {
+            dims: self.dims + added,
             held,
         })
     }

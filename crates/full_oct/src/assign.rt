@@ -10,7 +10,6 @@ ghost use Rattle.transfer_def.specs.Forget.{forgotten_entry, forgotten, forget_v
 ghost use Rattle.full_oct.specs.Formed.{equated_to, assigned_to};
 
 use crate::matrix::{FullMatrix, top_word};
-use crate::ranges::RangeTable;
 use crate::value::{FullValue, shared};
 use interval_form::{Form, linearise};
 use oct_def::NoMemory;
@@ -25,7 +24,7 @@ impl FullMatrix {
         requires over { IsFormOver dims form.now }
         ensures { IfOk result (λ m. m ≡ equated_to dims (form_in dims form.now) self.now) }
     {
-        let ranges = RangeTable::with_new(alloc, self, dims)?;
+        let ranges = self.ranges_with_new(alloc, dims)?;
         let new = Form::of_variable(alloc, dims)?;
         let below = form.minus(alloc, &new, &ranges)?;
         let above = new.minus(alloc, form, &ranges)?;
@@ -72,7 +71,7 @@ impl FullMatrix {
         requires over { IsOver dims (expr_at (exprs_in core.now) expr) }
         ensures { IfOk result (λ m. m ≡ assigned dims target (expr_at (exprs_in core.now) expr) self.now) }
     {
-        let ranges = RangeTable::of(alloc, self, dims)?;
+        let ranges = self.ranges(alloc, dims)?;
         let form = linearise(alloc, core, expr, &ranges)?;
         let after = self.assigned_form(alloc, dims, target, &form)?;
         Ok(after)

@@ -8,8 +8,7 @@ ghost use Rattle.interval_form.specs.Sparse.{IsFormOver, form_in};
 ghost use Rattle.full_oct.specs.Taken.{with_bound, taken};
 
 use crate::matrix::FullMatrix;
-use crate::ranges::RangeTable;
-use interval_form::{Bounds, Form, OctBound, Ranges, form_constraints};
+use interval_form::{Bounds, Form, OctBound, RangeTable, Ranges, form_constraints};
 use oct_def::{NoMemory, least_word};
 use std::alloc::Global;
 

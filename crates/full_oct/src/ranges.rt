@@ -1,65 +1,11 @@
 // The ranges of the variables of a matrix, read once for all forms that are made in them.
 ghost use Rattle.std.specs.Prelude.{◌≡◌, ◌+◌, ◌*◌, ◌<◌, ◌≤◌, ◌++◌, [], ◌∷◌, IfOk, length};
-ghost use Rattle.oct_def.specs.Bound.{bound_of, half};
-ghost use Rattle.interval_form.specs.Interval.{negated_bound, range_of, ranges_of, range_at, unbounded};
+ghost use Rattle.interval_form.specs.Interval.{range_of, ranges_of, unbounded};
 
 use crate::matrix::FullMatrix;
-use interval_form::{Interval, Ranges};
-use oct_def::{NONE, NoMemory};
+use interval_form::{Interval, RangeTable};
+use oct_def::NoMemory;
 use std::alloc::Global;
-use std::marker::Model;
-
-/// A range for each of at most 512 dimensions.
-#[derive(Drop)]
-pub struct RangeTable {
-    ranges: Vec<Interval>,
-}
-
-impl Model for RangeTable {
-    ghost use Rattle.std.specs.Prelude.{List, length, ◌≤◌};
-    ghost use Rattle.interval_form.specs.declared.interval.Interval.{Interval};
-
-    ghost Value = { List Interval };
-
-    ghost view = { λ t. t.ranges.items };
-
-    ghost invariant = { λ t. length t.ranges.items ≤ 512 };
-}
-
-impl Ranges for RangeTable {
-    ghost intervals = { λ t. t };
-
-    fn dims(&self) -> u32 {
-        self.ranges.len() as u32
-    }
-
-    #[tactic(auto, unfolding(interval_form::specs::Interval::range_at))]
-    fn range(&self, v: u32) -> Interval {
-        self.ranges[v as usize]
-    }
-}
-
-/// The upper end of a range: half of the bound on twice a variable.
-fn upper_end(word: i64) -> Option<i64>
-    ensures { result ≡ half (bound_of word) }
-{
-    if word == NONE {
-        None
-    } else {
-        Some(word.div_euclid(2))
-    }
-}
-
-/// The lower end of a range: minus half of the bound on minus twice a variable.
-fn lower_end(word: i64) -> Option<i64>
-    ensures { result ≡ negated_bound (half (bound_of word)) }
-{
-    if word == NONE {
-        None
-    } else {
-        Some(-word.div_euclid(2))
-    }
-}
 
 impl FullMatrix {
     /// The range of a variable.
@@ -70,10 +16,7 @@ impl FullMatrix {
     {
         let plus = 2 * v as usize;
         let minus = plus + 1;
-        Interval {
-            low: lower_end(self.word(plus, minus)),
-            high: upper_end(self.word(minus, plus)),
-        }
+        Interval::of_words(self.word(plus, minus), self.word(minus, plus))
     }
 }
 
@@ -90,32 +33,28 @@ fn read(alloc: Global, matrix: &FullMatrix, dims: u32) -> Result<Vec<Interval>, 
     Ok(ranges)
 }
 
-impl RangeTable {
-    /// The ranges of the first `dims` variables of a matrix.
-    pub(crate) fn of(alloc: Global, matrix: &FullMatrix, dims: u32) -> Result<RangeTable, NoMemory>
+impl FullMatrix {
+    /// The ranges of the first `dims` variables.
+    pub(crate) fn ranges(&self, alloc: Global, dims: u32) -> Result<RangeTable, NoMemory>
         requires small { dims ≤ 511 }
-        requires rows { 2 * dims ≤ length matrix.now }
-        ensures ranges { IfOk result (λ t. t ≡ ranges_of dims matrix.now) }
+        requires rows { 2 * dims ≤ length self.now }
+        ensures ranges { IfOk result (λ t. t ≡ ranges_of dims self.now) }
     {
-        let ranges = read(alloc, matrix, dims)?;
-        Ok(RangeTable { ranges })
+        let ranges = read(alloc, self, dims)?;
+        Ok(RangeTable::of(ranges))
     }
 
     /// The same with one more dimension that has no bounds.
-    pub(crate) fn with_new(
-        alloc: Global,
-        matrix: &FullMatrix,
-        dims: u32,
-    ) -> Result<RangeTable, NoMemory>
+    pub(crate) fn ranges_with_new(&self, alloc: Global, dims: u32) -> Result<RangeTable, NoMemory>
         requires small { dims ≤ 511 }
-        requires rows { 2 * dims ≤ length matrix.now }
-        ensures ranges { IfOk result (λ t. t ≡ ranges_of dims matrix.now ++ unbounded ∷ []) }
+        requires rows { 2 * dims ≤ length self.now }
+        ensures ranges { IfOk result (λ t. t ≡ ranges_of dims self.now ++ unbounded ∷ []) }
     {
-        let mut ranges = read(alloc, matrix, dims)?;
+        let mut ranges = read(alloc, self, dims)?;
         ranges.push(Interval {
             low: None,
             high: None,
         })?;
-        Ok(RangeTable { ranges })
+        Ok(RangeTable::of(ranges))
     }
 }

@@ -13,9 +13,8 @@ ghost use Rattle.interval_form.specs.Sparse.{IsFormOver, form_in};
 ghost use Rattle.transfer_def.specs.Test.{restrict_at_most, restrict_below, at_most_value, below_value, equal_value, different_value, compare_value, constant_value, test_value};
 
 use crate::matrix::FullMatrix;
-use crate::ranges::RangeTable;
 use crate::value::{FullValue, shared};
-use interval_form::{Form, linearise};
+use interval_form::{Form, RangeTable, linearise};
 use oct_def::NoMemory;
 use spl_core::{Cmp, Core, CoreCond, law_numbers};
 use std::alloc::Global;
@@ -102,7 +101,7 @@ impl FullMatrix {
         requires over_second { IsOver dims (expr_at (exprs_in core.now) b) }
         ensures { IfOk result (λ m. m ≡ restrict_at_most dims (expr_at (exprs_in core.now) a) (expr_at (exprs_in core.now) b) self.now) }
     {
-        let ranges = RangeTable::of(alloc, self, dims)?;
+        let ranges = self.ranges(alloc, dims)?;
         let form = difference(alloc, core, a, b, &ranges)?;
         let after = self.restricted(alloc, &form, &ranges)?;
         Ok(after)
@@ -125,7 +124,7 @@ impl FullMatrix {
         requires over_second { IsOver dims (expr_at (exprs_in core.now) b) }
         ensures { IfOk result (λ m. m ≡ restrict_below dims (expr_at (exprs_in core.now) a) (expr_at (exprs_in core.now) b) self.now) }
     {
-        let ranges = RangeTable::of(alloc, self, dims)?;
+        let ranges = self.ranges(alloc, dims)?;
         let form = difference(alloc, core, a, b, &ranges)?;
         let minus_one = Form::of_constant(alloc, -1)?;
         let and_one = form.minus(alloc, &minus_one, &ranges)?;

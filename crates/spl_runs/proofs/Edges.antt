@@ -1,5 +1,5 @@
 -- Edges of a core and of its graph.
-use Rattle.std.proofs.Common.{◌≡◌, ℕ, suc, zero, ◌-◌, ◌≤◌, Bool, true, false, List, [], ◌∷◌, ◌++◌, length, None, Some, ℤ, pos, negsuc, ◌≤ℤ◌, ◌<ℤ◌, refl, sym, ap, ◌∙◌, arith}
+use Rattle.std.proofs.Common.{◌≡◌, ℕ, suc, zero, ◌-◌, ◌≤◌, Bool, true, false, List, [], ◌∷◌, ◌++◌, length, None, Some, ℤ, pos, negsuc, ◌≤ℤ◌, refl, sym, ap, ◌∙◌, arith}
 use Rattle.std.specs.Prelude.{map, filter, slice_get, nat_eq, reverse, cond}
 use Rattle.std.specs.Option.{option_map}
 use Rattle.std.proofs.lemmas.Int.{ints}
@@ -49,16 +49,9 @@ filter_fewer p (x ∷ xs) = by (p x) (filter_fewer p xs)
     by true h = omega arith
     by false h = omega arith
 
-pub numbered_below : (xs : List Edge) (z : ℤ) → z <ℤ pos 0 → numbered xs z ≡ None
-numbered_below xs (pos n) l = absurd (omega (arith, ints))
-numbered_below xs (negsuc n) l = refl
-
 pub numbered_past : (p : Edge → Bool) (xs : List Edge) (z : ℤ) → pos (length xs) ≤ℤ z → numbered (filter p xs) z ≡ None
 numbered_past p xs (pos n) l = get_past (filter p xs) n (omega (arith, ints, filter_fewer p xs))
 numbered_past p xs (negsuc n) l = absurd (omega (arith, ints))
-
-pub numbered_within : (xs : List Edge) (z : ℤ) (n : ℕ) → z ≡ pos n → numbered xs z ≡ slice_get xs n
-numbered_within xs z n e = ap (numbered xs) e
 
 -- the edge with a number, in a core and in its graph
 pub numbered_at : (c : Parts) (p : ℕ) (z : ℤ) → numbered (arcs_out (graph_of c) p) z ≡ option_map (arc_of c) (numbered (filter (λ e. nat_eq e.source p) c.edges) z)

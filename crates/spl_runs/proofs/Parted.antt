@@ -1,6 +1,6 @@
 -- Values within 128 bits, from those of the parts; and a core's numbers by their nodes.
 use Rattle.std.proofs.Common.{◌≡◌, ℕ, ◌^◌, ◌<◌, Bool, true, false, length, get_or, Option, None, Some, ℤ, pos, ◌+ℤ◌, ◌-ℤ◌, ◌*ℤ◌, neg_ℤ, FitsSigned, to_z, of_z, refl, sym, ap, subst, ◌∙◌, arith}
-use Rattle.std.specs.Prelude.{not, ◌&&◌, ◌||◌, if◌then◌else◌}
+use Rattle.std.specs.Prelude.{not, ◌||◌, if◌then◌else◌}
 use Rattle.std.specs.Int.{w128}
 use Rattle.std.specs.Option.{SomeIff}
 use Rattle.std.proofs.lemmas.Int.{ints, to_z-of_z}
@@ -10,13 +10,11 @@ use Rattle.spl_core.specs.Parts.{Parts}
 use Rattle.spl_core.specs.Facts.{ExprFits, CondFits, IsCore}
 use Rattle.spl_core.specs.Laws.{NumbersStandForNodes}
 use Rattle.spl_core.specs.Expression.{Expression, Number, Variable, Neg, Add, Sub, Mul, State, value_of, eval}
-use Rattle.spl_core.specs.Condition.{Condition, And, Or, Compare, compares}
 use Rattle.spl_core.specs.Graph.{expr_at, expr_over, exprs_in, cond_at, cond_over, conds_in}
 use Rattle.spl_runs.specs.Word.{fits}
-use Rattle.spl_runs.specs.Replay.{is_wide, is_wide_condition, same_bool, may}
-use Rattle.spl_runs.specs.Exact.{exact, exact_may, within, negated, sum_of, difference_of, product_of, joined, compared}
+use Rattle.spl_runs.specs.Replay.{is_wide}
+use Rattle.spl_runs.specs.Exact.{exact, within, negated, sum_of, difference_of, product_of}
 use Rattle.spl_runs.proofs.Fitting.{fits_of, unfit}
-use Rattle.spl_core.specs.declared.parts.Cmp.{Cmp}
 
 -- ---- a checked result
 
@@ -32,9 +30,6 @@ two g x y e f = ap (λ z. g z (to_z w128 (of_z w128 y))) (to_z-of_z w128 x e) �
 
 pub sum_is : (r : Option ℤ) (x y : ℤ) → FitsSigned w128 x → FitsSigned w128 y → SomeIff r (FitsSigned w128 (to_z w128 (of_z w128 x) +ℤ to_z w128 (of_z w128 y))) (to_z w128 (of_z w128 x) +ℤ to_z w128 (of_z w128 y)) → r ≡ sum_of (Some x) (Some y)
 sum_is r x y e f h = some_iff r _ (x +ℤ y) (two (λ a b. a +ℤ b) x y e f) h
-
-pub difference_is : (r : Option ℤ) (x y : ℤ) → FitsSigned w128 x → FitsSigned w128 y → SomeIff r (FitsSigned w128 (to_z w128 (of_z w128 x) -ℤ to_z w128 (of_z w128 y))) (to_z w128 (of_z w128 x) -ℤ to_z w128 (of_z w128 y)) → r ≡ difference_of (Some x) (Some y)
-difference_is r x y e f h = some_iff r _ (x -ℤ y) (two (λ a b. a -ℤ b) x y e f) h
 
 pub product_is : (r : Option ℤ) (x y : ℤ) → FitsSigned w128 x → FitsSigned w128 y → SomeIff r (FitsSigned w128 (to_z w128 (of_z w128 x) *ℤ to_z w128 (of_z w128 y))) (to_z w128 (of_z w128 x) *ℤ to_z w128 (of_z w128 y)) → r ≡ product_of (Some x) (Some y)
 product_is r x y e f h = some_iff r _ (x *ℤ y) (two (λ a b. a *ℤ b) x y e f) h
@@ -92,35 +87,6 @@ unfolding eval
 exact_variable v s f = sym (leaf (value_of s v) f)
 
 -- ---- a condition by its parts
-
-both_by : (a b x y : Bool) → (if a || b then None else Some (x && y)) ≡ joined true (if a then None else Some x) (if b then None else Some y)
-both_by true b x y = refl
-both_by false true x y = refl
-both_by false false x y = refl
-
-one_by : (a b x y : Bool) → (if a || b then None else Some (x || y)) ≡ joined false (if a then None else Some x) (if b then None else Some y)
-one_by true b x y = refl
-one_by false true x y = refl
-one_by false false x y = refl
-
-pub exact_and : (c d : Condition) (s : State) (wanted : Bool) → joined wanted (exact_may c s wanted) (exact_may d s wanted) ≡ exact_may (And c d) s wanted
-exact_and c d s true = sym (both_by (is_wide_condition c s) (is_wide_condition d s) (may c s true) (may d s true))
-exact_and c d s false = sym (one_by (is_wide_condition c s) (is_wide_condition d s) (may c s false) (may d s false))
-
-pub exact_or : (c d : Condition) (s : State) (wanted : Bool) → joined (not wanted) (exact_may c s wanted) (exact_may d s wanted) ≡ exact_may (Or c d) s wanted
-exact_or c d s true = sym (one_by (is_wide_condition c s) (is_wide_condition d s) (may c s true) (may d s true))
-exact_or c d s false = sym (both_by (is_wide_condition c s) (is_wide_condition d s) (may c s false) (may d s false))
-
-compare_by : (r : Cmp) (wanted a b : Bool) (x y : ℤ) → (if a || b then None else Some (same_bool (compares r x y) wanted)) ≡ compared r wanted (if a then None else Some x) (if b then None else Some y)
-compare_by r wanted true b x y = refl
-compare_by r wanted false true x y = refl
-compare_by r wanted false false x y = refl
-
-pub exact_compare : (r : Cmp) (a b : Expression) (s : State) (wanted : Bool) → compared r wanted (exact a s) (exact b s) ≡ exact_may (Compare r a b) s wanted
-exact_compare r a b s wanted = sym (compare_by r wanted (is_wide a s) (is_wide b s) (eval a s) (eval b s))
-
-pub same_true : (wanted : Bool) → Some wanted ≡ Some (same_bool true wanted)
-same_true wanted = refl
 
 -- ---- a core's numbers
 

@@ -1,10 +1,9 @@
 -- Dimensions of a span, one by one, and edges out of a point.
-use Rattle.std.proofs.Common.{◌≡◌, ◌≢◌, ℕ, suc, zero, ◌+◌, ◌-◌, ◌*◌, ◌<◌, ◌≤◌, Bool, true, false, List, [], ◌∷◌, ◌++◌, length, take, drop, get_or, None, Some, ℤ, refl, sym, ap, ◌∙◌, arith, drop-cons}
-use Rattle.std.specs.Prelude.{filter, slice_get, slice_set}
+use Rattle.std.proofs.Common.{◌≡◌, ℕ, suc, zero, ◌+◌, ◌*◌, ◌<◌, ◌≤◌, List, [], ◌∷◌, ◌++◌, length, take, drop, get_or, ℤ, refl, sym, ap, ◌∙◌, arith, drop-cons}
+use Rattle.std.specs.Prelude.{slice_set}
 use Rattle.std.proofs.Math.Seq.{take-suc}
 use Rattle.std.proofs.lemmas.List.{length-take, length-drop, get_or-take, get_or-drop, map-append}
 use Rattle.spl_core.specs.declared.parts.Span.{Span}
-use Rattle.spl_core.specs.declared.parts.Edge.{Edge}
 use Rattle.spl_core.specs.Parts.{Parts, span_dims}
 use Rattle.spl_core.specs.Expression.{State, value_of}
 use Rattle.spl_core.specs.Graph.{pairs_in}
@@ -42,9 +41,6 @@ outputs_more s t xs ys k d l m e = rw (drop-cons xs k 0 l, drop-cons ys k d m) (
 pub outputs_none : (s : State) (xs : List ℕ) (ys : List ℤ) (k : ℕ) → length ys ≤ k → with_values s (drop k xs) (drop k ys) ≡ with_values s (drop (suc k) xs) (drop (suc k) ys)
 outputs_none s xs ys k l = rw (drop_all ys k l, drop_all ys (suc k) (omega arith)) (with_none s (drop k xs) ∙ sym (with_none s (drop (suc k) xs)))
 
-pub outputs_end : (s : State) (xs : List ℕ) (ys : List ℤ) (k : ℕ) → length xs ≤ k → with_values s (drop k xs) ys ≡ s
-outputs_end s xs ys k l = rw (drop_all xs k l) refl
-
 -- ---- pairs
 
 pub pairs_more : (s t : State) (xs : List ℕ) (k : ℕ) → 2 * k + 1 < length xs → t ≡ slice_set s (get_or xs (2 * k) 0) (value_of s (get_or xs (2 * k + 1) 0))
@@ -68,23 +64,3 @@ pub pairs_end : (s : State) (xs : List ℕ) (k : ℕ) → length xs ≤ 2 * k + 
 pairs_end s xs k l = short (drop (2 * k) xs) s (omega (arith, length-drop (2 * k) xs))
 
 -- ---- edges out of a point
-
-pub seek_more : (p : Edge → Bool) (xs : List Edge) (e left : ℕ) (x d : Edge) → e < length xs → x ≡ get_or xs e d → p x ≡ true → left ≢ 0 → slice_get (filter p (drop e xs)) left ≡ slice_get (filter p (drop (suc e) xs)) (left - 1)
-seek_more p xs e zero x d l h t n = absurd (n refl)
-seek_more p xs e (suc left) x d l h t n =
-    let i : p (get_or xs e d) ≡ true = ap p (sym h) ∙ t in
-    let j : left ≡ suc left - 1 = omega arith in
-    rw (drop-cons xs e d l, i) (ap (slice_get (filter p (drop (suc e) xs))) j)
-
-pub seek_past : (p : Edge → Bool) (xs : List Edge) (e left : ℕ) (x d : Edge) → e < length xs → x ≡ get_or xs e d → p x ≡ false → slice_get (filter p (drop e xs)) left ≡ slice_get (filter p (drop (suc e) xs)) left
-seek_past p xs e left x d l h t = let i : p (get_or xs e d) ≡ false = ap p (sym h) ∙ t in rw (drop-cons xs e d l, i) refl
-
-pub seek_here : (p : Edge → Bool) (xs : List Edge) (e : ℕ) (x d : Edge) → e < length xs → x ≡ get_or xs e d → p x ≡ true → slice_get (filter p (drop e xs)) 0 ≡ Some x
-seek_here p xs e x d l h t = let i : p (get_or xs e d) ≡ true = ap p (sym h) ∙ t in rw (drop-cons xs e d l, i) (ap Some (sym h))
-
-pub seek_end : (p : Edge → Bool) (xs : List Edge) (e left : ℕ) → length xs ≤ e → slice_get (filter p (drop e xs)) left ≡ None
-seek_end p xs e left l = rw (drop_all xs e l) (by left)
-  where
-    by : (n : ℕ) → slice_get {X = Edge} [] n ≡ None
-    by zero = refl
-    by (suc n) = refl

@@ -1,0 +1,7 @@
+pub mod Renamed
+pub mod Numbers
+pub mod Sharing
+pub mod Taken
+pub mod Joined
+pub mod Moved
+pub mod Widened

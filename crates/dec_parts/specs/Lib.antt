@@ -1,0 +1,4 @@
+pub mod Rename
+pub mod Lower
+pub mod Moving
+pub mod Joined

@@ -1,0 +1,3 @@
+pub mod Forgetting
+pub mod Bounding
+pub mod Costs

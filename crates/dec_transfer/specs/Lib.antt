@@ -1,0 +1,4 @@
+pub mod Listed
+pub mod Cost
+pub mod Forgotten
+pub mod Restricted
