@@ -1,4 +1,4 @@
-use Rattle.full_oct.proofs.Ranging.{few-ranges}
+use Rattle.interval_form.proofs.Ranging.{few-ranges}
 use Rattle.full_oct.proofs.matrix.FullMatrix.ranges.Goals as goal
 
 pub of-requires : goal.of-requires

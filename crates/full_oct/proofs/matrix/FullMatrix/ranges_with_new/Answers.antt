@@ -1,4 +1,4 @@
-use Rattle.full_oct.proofs.Ranging.{few-more}
+use Rattle.interval_form.proofs.Ranging.{few-more}
 use Rattle.full_oct.proofs.matrix.FullMatrix.ranges_with_new.Goals as goal
 
 pub of-requires : goal.of-requires
