@@ -1,25 +1,55 @@
 -- The value under new numbers, and the marks that it keeps.
-use Rattle.std.proofs.Common.{◌≡◌, ℕ, ◌+◌, ◌*◌, ◌<◌, ◌≤◌, ◌⊎◌, inl, inr, Bool, true, List, length, Option, Some, None, refl, sym, ap, ◌∙◌, subst, arith}
+use Rattle.std.proofs.Common.{◌≡◌, ℕ, ◌+◌, ◌*◌, ◌<◌, ◌≤◌, ◌⊎◌, inl, inr, Bool, true, false, List, length, Option, Some, None, refl, sym, ap, ◌∙◌, subst, arith}
 use Rattle.std.specs.Prelude.{◌↔◌}
 use Rattle.std.specs.Option.{option_map}
 use Rattle.std.proofs.lemmas.Bool.{cases_lt}
-use Rattle.oct_def.specs.Table.{Matrix}
+use Rattle.oct_def.specs.Table.{Matrix, at}
+use Rattle.oct_def.specs.Matrix.{opposite, IsSquare, IsCoherent, IsEvenMatrix}
 use Rattle.oct_def.specs.Tight.{tight}
 use Rattle.oct_def.specs.Octagon.{bottom_value}
 use Rattle.block_partition.specs.Partition.{member, block, home, IsIn, SameBlock, IsBlock, IsPartition}
 use Rattle.block_partition.specs.Changes.{given_label}
 use Rattle.block_partition.proofs.Places.{home_in, home-in, in-member, block_count}
 use Rattle.block_partition.proofs.Unique.{IsRising, IsWithin, rising-unique}
-use Rattle.block_laws.specs.Assembly.{matrix, restrict, assembly, IsSeparated}
+use Rattle.block_laws.specs.Assembly.{outer, matrix, restrict, assembly, IsSeparated}
 use Rattle.block_laws.proofs.Assembly.{length-assembly, separated-assembly, restrict-assembly}
 use Rattle.dec_oct.specs.Value.{Blocks, blocks_of, whole, marked, Decomposed, decomposed, octagon, octagon_of, IsSettled, IsDecomposition, IsKeptBlocks, IsKept}
 use Rattle.dec_oct.specs.Cost.{IsMarkedBlock}
 use Rattle.dec_oct.specs.Given.{IsEvenGiven, KeepsMarks, KeepsMarksOf}
+use Rattle.block_laws.proofs.Places.{outer_below}
+use Rattle.dec_oct.proofs.Stored.{part-is}
+use Rattle.dec_oct.proofs.Words.{stored-below}
 use Rattle.dec_oct.proofs.Flags.{marked-again}
 use Rattle.dec_oct.proofs.Givens.{ArePartsOf, whole-of, even_given-of}
-use Rattle.dec_parts.specs.Rename.{origin, renamed_matrix, renamed_value, AreOrigins, AreUnmoved, KeepsOwnMarks, KeepsOwnMarksOf, IsAlone, AreRenamedBlocks, IsRenamedPart, AreRenamedParts}
-use Rattle.dec_parts.proofs.Renaming.{even-renamed, length-renamed, part-kept}
-use Rattle.dec_parts.proofs.Numbers.{same-held, separated-renamed}
+use Rattle.dec_parts.specs.Rename.{origin, renamed_entry, renamed_matrix, renamed_value, AreOrigins, KeepNumbers, AreUnmoved, KeepsOwnMarks, KeepsOwnMarksOf, IsAlone, AreRenamedBlocks, IsRenamedPart, AreRenamedParts}
+use Rattle.dec_parts.proofs.Renaming.{even-renamed, at-renamed, part-kept}
+use Rattle.dec_parts.proofs.Numbers.{origin-small, same-held, separated-renamed}
+
+-- ---- parts
+
+pub part-of_kept : (n : ℕ) (origins : List (Option ℕ)) (a : Blocks) (vs : List ℕ) (m : Matrix) (mark : Bool) → IsDecomposition n a → AreOrigins n origins → IsBlock (length origins) vs → KeepNumbers origins vs → m ≡ restrict vs (whole n a)
+    → (mark ≡ true → IsMarkedBlock a vs m) → (mark ≡ false → IsMarkedBlock a vs m → ⊥) → IsRenamedPart n origins a vs m mark
+part-of_kept n origins a vs m mark d o bl k e y f = record {
+  words = e ∙ part-kept n origins (whole n a) vs d.value o bl k;
+  yes = y;
+  kept = λ _ h. by mark refl h;
+}
+  where
+    by : (b : Bool) → mark ≡ b → IsMarkedBlock a vs m → mark ≡ true
+    by true g h = g
+    by false g h = absurd (f g h)
+
+pub part-of_moved : (n : ℕ) (origins : List (Option ℕ)) (a : Blocks) (vs : List ℕ) (m : Matrix) → IsDecomposition n a → AreOrigins n origins → IsBlock (length origins) vs → (KeepNumbers origins vs → ⊥) → length m ≡ 2 * length vs → IsSquare m → IsCoherent m
+    → ((i j : ℕ) → i < 2 * length vs → j < opposite i + 1 → at m i j ≡ renamed_entry origins (whole n a) (outer vs i) (outer vs j)) → IsRenamedPart n origins a vs m false
+part-of_moved n origins a vs m d o bl k e sq co h = record {
+  words = part-is (length origins) vs (renamed_matrix origins (whole n a)) m bl v.matrix.rows v.matrix.coherent e sq co (λ i j p q.
+    h i j p q ∙ sym (at-renamed origins (whole n a) (outer vs i) (outer vs j) (outer_below (length origins) vs i bl p) (outer_below (length origins) vs j bl (stored-below (length vs) i j p q))));
+  yes = λ g. absurd (cc);
+  kept = λ g _. absurd (k g);
+}
+  where
+    v : IsEvenMatrix (length origins) (renamed_matrix origins (whole n a))
+    v = even-renamed n origins (whole n a) o d.value
 
 -- what the renaming of blocks gave
 pub record IsRenaming (n : ℕ) (origins : List (Option ℕ)) (a : Blocks) (cs : List (List ℕ)) (ms : List Matrix) (marks : List Bool) : Type 0 where
@@ -93,10 +123,10 @@ keeps-own n origins a r cs ms marks h d k = record { kept = λ p c i j f un mark
         inside : (x : ℕ) → x < length vs → IsIn (block cs q) (member vs x)
         inside x z =
             let e : home cs (member vs x) ≡ q = sym (together x z).0 in
-            subst (λ t. IsIn (block cs t) (member vs x)) e (home_in cs (member vs x) (omega (arith, within)))
+            subst (λ t. IsIn (block cs t) (member vs x)) e (home_in cs (member vs x) (subst (λ t. t < length cs) (together x z).0 within))
 
         number : given_label h.blocks.numbers first ≡ Some p
-        number = (h.blocks.are.each first (omega (arith, (h.partition.blocks q within).below 0 (omega (arith, inside 0 filled))))).held first (own 0 filled) (subst (λ t. t < length a.partition) (sym first_at) i) ∙ ap Some first_at
+        number = (h.blocks.are.each first (origin-small origins first first (own 0 filled))).held first (own 0 filled) (subst (λ t. t < length a.partition) (sym first_at) i) ∙ ap Some first_at
 
         back : (w : ℕ) → w < length origins → home cs w ≡ q → IsIn vs w
         back w z e = which (origin origins w) refl

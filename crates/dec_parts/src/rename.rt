@@ -127,6 +127,7 @@ fn renamed_part(
     requires filled { 0 < length members.now }
     ensures { IfOk result (λ p. IfSome v.now.blocks (λ b. IsRenamedPart v.now.dims origins.now b members.now p.matrix p.settled)) }
 {
+    v.known();
     if keep_numbers(origins, members) {
         let part = kept_part(alloc, v, members)?;
         return Ok(part);
