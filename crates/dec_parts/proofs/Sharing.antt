@@ -151,6 +151,7 @@ keeps-own n origins a r cs ms marks h d k = record { kept = λ p c i j f un mark
                         let s : Some (512 + x) ≡ Some p = sym t ∙ shown in
                         let y : 512 + x ≡ p = cc in
                         let m = h.small in
+                        let l = few in
                         absurd (omega arith)
                     free (inr t) = let s : None ≡ Some p = sym t.0 ∙ shown in absurd (cc)
 
