@@ -1,6 +1,6 @@
 -- The value under new numbers, and the marks that it keeps.
 use Rattle.std.proofs.Common.{◌≡◌, ℕ, ◌+◌, ◌*◌, ◌<◌, ◌≤◌, ◌⊎◌, inl, inr, Bool, true, false, List, length, Option, Some, None, refl, sym, ap, ◌∙◌, subst, arith}
-use Rattle.std.specs.Prelude.{◌↔◌}
+use Rattle.std.specs.Prelude.{◌↔◌, IsSome, IfSome}
 use Rattle.std.specs.Option.{option_map}
 use Rattle.std.proofs.lemmas.Bool.{cases_lt}
 use Rattle.oct_def.specs.Table.{Matrix, at}
@@ -23,7 +23,7 @@ use Rattle.dec_oct.proofs.Flags.{marked-again}
 use Rattle.dec_oct.proofs.Givens.{ArePartsOf, whole-of, even_given-of}
 use Rattle.dec_parts.specs.Rename.{origin, renamed_entry, renamed_matrix, renamed_value, AreOrigins, KeepNumbers, AreUnmoved, KeepsOwnMarks, KeepsOwnMarksOf, IsAlone, AreRenamedBlocks, IsRenamedPart, AreRenamedParts}
 use Rattle.dec_parts.proofs.Renaming.{even-renamed, at-renamed, part-kept}
-use Rattle.dec_parts.proofs.Numbers.{origin-small, same-held, separated-renamed}
+use Rattle.dec_parts.proofs.Numbers.{origin-small, same-held, renamed-partition, separated-renamed}
 
 -- ---- parts
 
@@ -68,11 +68,11 @@ parts-renamed n origins a cs ms marks h = record {
   each = λ c p. (h.parts.each c p).words;
 }
 
-pub given-renamed : (n : ℕ) (origins : List (Option ℕ)) (a : Blocks) (cs : List (List ℕ)) (ms : List Matrix) (marks : List Bool) → IsRenaming n origins a cs ms marks → IsEvenGiven (length origins) (blocks_of cs ms marks)
+given-renamed : (n : ℕ) (origins : List (Option ℕ)) (a : Blocks) (cs : List (List ℕ)) (ms : List Matrix) (marks : List Bool) → IsRenaming n origins a cs ms marks → IsEvenGiven (length origins) (blocks_of cs ms marks)
 given-renamed n origins a cs ms marks h = even_given-of (length origins) (renamed_matrix origins (whole n a)) cs ms marks (even-renamed n origins (whole n a) h.origins_in h.old.value) (parts-renamed n origins a cs ms marks h) h.parts.size
     (record { again = λ b p g. marked-again a (block cs b) (matrix ms b) h.old.parts.count h.old.settled ((h.parts.each b (let e = h.parts.count in omega arith)).yes g) })
 
-pub whole-renamed : (n : ℕ) (origins : List (Option ℕ)) (a : Blocks) (cs : List (List ℕ)) (ms : List Matrix) (marks : List Bool) → IsRenaming n origins a cs ms marks → assembly (length origins) cs ms ≡ renamed_matrix origins (whole n a)
+whole-renamed : (n : ℕ) (origins : List (Option ℕ)) (a : Blocks) (cs : List (List ℕ)) (ms : List Matrix) (marks : List Bool) → IsRenaming n origins a cs ms marks → assembly (length origins) cs ms ≡ renamed_matrix origins (whole n a)
 whole-renamed n origins a cs ms marks h =
     let v = even-renamed n origins (whole n a) h.origins_in h.old.value in
     whole-of (length origins) (renamed_matrix origins (whole n a)) cs ms v.matrix.square v.matrix.rows (parts-renamed n origins a cs ms marks h)
@@ -171,19 +171,48 @@ keeps-own n origins a r cs ms marks h d k = record { kept = λ p c i j f un mark
 
 -- ---- the result
 
-pub value-renamed : (n : ℕ) (origins : List (Option ℕ)) (a : Blocks) (cs : List (List ℕ)) (ms : List Matrix) (marks : List Bool) (r : Decomposed) → IsRenaming n origins a cs ms marks → octagon r ≡ octagon_of (length origins) (Some (assembly (length origins) cs ms))
-    → octagon r ≡ renamed_value origins (octagon (decomposed n (Some a)))
+-- what was made of a value that isn't Bottom
+pub record IsMade (n : ℕ) (origins : List (Option ℕ)) (a : Option Blocks) (bs cs : List (List ℕ)) (k : ℕ) (ds : List (List ℕ)) (ms : List Matrix) (marks : List Bool) : Type 0 where
+  pub small : n ≤ 512
+  pub old : IsKeptBlocks n a
+  pub some : IsSome a
+  pub origins_in : AreOrigins n origins
+  pub own : IfSome a (λ b. bs ≡ b.partition)
+  pub blocks : AreRenamedBlocks bs origins cs
+  pub partition : IsPartition 512 cs
+  pub dims : k ≡ length origins
+  pub same : ds ≡ cs
+  pub parts : IfSome a (λ b. AreRenamedParts n origins b cs ms marks)
+
+renaming-made : (n : ℕ) (origins : List (Option ℕ)) (a : Blocks) (bs cs : List (List ℕ)) (k : ℕ) (ds : List (List ℕ)) (ms : List Matrix) (marks : List Bool) → IsMade n origins (Some a) bs cs k ds ms marks → IsRenaming n origins a ds ms marks
+renaming-made n origins a bs cs k ds ms marks h = record {
+  small = h.small;
+  old = h.old;
+  origins_in = h.origins_in;
+  blocks = subst (λ t. AreRenamedBlocks a.partition origins t) (sym h.same) (subst (λ t. AreRenamedBlocks t origins cs) h.own h.blocks);
+  partition = subst (IsPartition (length origins)) (sym h.same) (renamed-partition bs origins cs h.blocks h.partition);
+  parts = subst (λ t. AreRenamedParts n origins a t ms marks) (sym h.same) h.parts;
+}
+
+pub given-made : (n : ℕ) (origins : List (Option ℕ)) (a : Option Blocks) (bs cs : List (List ℕ)) (k : ℕ) (ds : List (List ℕ)) (ms : List Matrix) (marks : List Bool) → IsMade n origins a bs cs k ds ms marks → IsEvenGiven k (blocks_of ds ms marks)
+given-made n origins None bs cs k ds ms marks h = absurd (let s = h.some in cc)
+given-made n origins (Some a) bs cs k ds ms marks h = subst (λ t. IsEvenGiven t (blocks_of ds ms marks)) (sym h.dims) (given-renamed n origins a ds ms marks (renaming-made n origins a bs cs k ds ms marks h))
+
+pub value-made : (n : ℕ) (origins : List (Option ℕ)) (a : Option Blocks) (bs cs : List (List ℕ)) (k : ℕ) (ds : List (List ℕ)) (ms : List Matrix) (marks : List Bool) (r : Decomposed) → IsMade n origins a bs cs k ds ms marks → octagon r ≡ octagon_of k (Some (assembly k ds ms))
+    → octagon r ≡ renamed_value origins (octagon (decomposed n a))
 unfolding renamed_value
-value-renamed n origins a cs ms marks r h e = e ∙ ap (λ m. octagon_of (length origins) (Some m)) (whole-renamed n origins a cs ms marks h)
+value-made n origins None bs cs k ds ms marks r h e = absurd (let s = h.some in cc)
+value-made n origins (Some a) bs cs k ds ms marks r h e = e ∙ ap (λ t. octagon_of t (Some (assembly t ds ms))) h.dims ∙ ap (λ m. octagon_of (length origins) (Some m)) (whole-renamed n origins a ds ms marks (renaming-made n origins a bs cs k ds ms marks h))
 
-pub value-bottom : (n : ℕ) (origins : List (Option ℕ)) (r : Decomposed) → octagon r ≡ bottom_value (length origins) → octagon r ≡ renamed_value origins (octagon (decomposed n None))
+pub value-bottom : (n : ℕ) (origins : List (Option ℕ)) (a : Option Blocks) (r : Decomposed) → a ≡ None → octagon r ≡ bottom_value (length origins) → octagon r ≡ renamed_value origins (octagon (decomposed n a))
 unfolding renamed_value bottom_value
-value-bottom n origins r e = e
+value-bottom n origins a r z e = e ∙ sym (ap (λ t. renamed_value origins (octagon (decomposed n t))) z)
 
-pub marks-renamed : (n : ℕ) (origins : List (Option ℕ)) (a : Blocks) (cs : List (List ℕ)) (ms : List Matrix) (marks : List Bool) (r : Decomposed) → IsRenaming n origins a cs ms marks → octagon r ≡ octagon_of (length origins) (Some (assembly (length origins) cs ms))
-    → IsKept r → KeepsMarksOf (blocks_of cs ms marks) r.blocks → KeepsOwnMarksOf origins (Some a) r.blocks
-marks-renamed n origins a cs ms marks r h e kept k = by r.dims r.blocks (ap (λ z. z.dims) e) (ap (λ z. z.matrix) e) kept.blocks k
+pub marks-made : (n : ℕ) (origins : List (Option ℕ)) (a : Option Blocks) (bs cs : List (List ℕ)) (k : ℕ) (ds : List (List ℕ)) (ms : List Matrix) (marks : List Bool) (r : Decomposed) → IsMade n origins a bs cs k ds ms marks → octagon r ≡ octagon_of k (Some (assembly k ds ms))
+    → IsKept r → KeepsMarksOf (blocks_of ds ms marks) r.blocks → KeepsOwnMarksOf origins a r.blocks
+marks-made n origins None bs cs k ds ms marks r h e kept m = absurd (let s = h.some in cc)
+marks-made n origins (Some a) bs cs k ds ms marks r h e kept m = by r.dims r.blocks (ap (λ z. z.dims) e ∙ h.dims) (ap (λ z. z.matrix) e) kept.blocks m
   where
-    by : (d : ℕ) (o : Option Blocks) → d ≡ length origins → option_map (whole d) o ≡ Some (assembly (length origins) cs ms) → IsKeptBlocks d o → KeepsMarksOf (blocks_of cs ms marks) o → KeepsOwnMarksOf origins (Some a) o
+    by : (d : ℕ) (o : Option Blocks) → d ≡ length origins → option_map (whole d) o ≡ Some (assembly k ds ms) → IsKeptBlocks d o → KeepsMarksOf (blocks_of ds ms marks) o → KeepsOwnMarksOf origins (Some a) o
     by d None g j x y = absurd (cc)
-    by d (Some b) g j x y = keeps-own n origins a b cs ms marks h (subst (λ t. IsDecomposition t b) g x) y
+    by d (Some b) g j x y = keeps-own n origins a b ds ms marks (renaming-made n origins a bs cs k ds ms marks h) (subst (λ t. IsDecomposition t b) g x) y

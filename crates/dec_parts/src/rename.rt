@@ -186,8 +186,10 @@ pub fn renamed(alloc: Global, v: &DecOct, origins: &[Option<u32>]) -> Result<Dec
         None => Ok(DecOct::bottom(origins.len() as u32)),
         Some(p) => {
             let made = renamed_partition(alloc, p, origins)?;
+            made.known();
             let parts = renamed_parts(alloc, v, origins, made)?;
             let r = DecOct::from_parts(alloc, parts)?;
+            r.known();
             Ok(r)
         }
     }
