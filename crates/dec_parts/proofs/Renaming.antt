@@ -24,6 +24,17 @@ pub dimension-new : (origins : List (Option ℕ)) (i : ℕ) → origin origins (
 unfolding origin_dimension
 dimension-new origins i e = ap (signed_origin i) e
 
+pub dimension-below : (n : ℕ) (origins : List (Option ℕ)) (i p : ℕ) → AreOrigins n origins → origin_dimension origins i ≡ Some p → p < 2 * n
+dimension-below n origins i p o e = by (origin origins (i / 2)) refl
+  where
+    by : (a : Option ℕ) → origin origins (i / 2) ≡ a → p < 2 * n
+    by None f = let g : None ≡ Some p = sym (dimension-new origins i f) ∙ e in absurd (cc)
+    by (Some u) f =
+        let g : Some (2 * u + i % 2) ≡ Some p = sym (dimension-old origins i u f) ∙ e in
+        let h : 2 * u + i % 2 ≡ p = cc in
+        let b = o (i / 2) u f in
+        omega arith
+
 -- ---- entries
 
 pub renamed-same : (origins : List (Option ℕ)) (m : Matrix) (i j : ℕ) → i ≡ j → renamed_entry origins m i j ≡ Some (pos 0)
