@@ -1,5 +1,5 @@
 -- Parts that take listed bounds are the parts of the whole matrix that takes them.
-use Rattle.std.proofs.Common.{◌≡◌, ℕ, ◌*◌, ◌/◌, ◌<◌, ◌≤◌, ◌⊎◌, inl, inr, Bool, true, false, cond, List, [], ◌∷◌, length, Some, None, refl, sym, ap, ◌∙◌, subst, arith, ◌+◌, ◌%◌, drop, add-one, drop-cons}
+use Rattle.std.proofs.Common.{◌≡◌, ℕ, ◌*◌, ◌/◌, ◌<◌, ◌≤◌, ◌⊎◌, inl, inr, Bool, true, false, cond, List, [], ◌∷◌, length, Some, None, refl, sym, ap, ◌∙◌, subst, arith, ◌+◌, ◌%◌, drop, add-one, drop-cons, suc}
 use Rattle.std.proofs.lemmas.Bool.{cases_Bool, cond-true, cond-false, eqb-true, eq-eqb, lt-ltb, ltb-true, and_from, and_parts}
 use Rattle.std.specs.Prelude.{nat_eq}
 use Rattle.oct_def.specs.Bound.{Bound, InRange, least, bound_of}
@@ -24,7 +24,7 @@ use Rattle.block_laws.proofs.Places.{outer_in, outer_below, outer-opposite, inne
 use Rattle.block_laws.proofs.Restrict.{length-restrict, at-restrict}
 use Rattle.dec_oct.proofs.Cuts.{square-part}
 use Rattle.dec_oct.proofs.Givens.{coherent-part}
-use Rattle.dec_parts.specs.Lower.{bound_in, lowered_entry, lowered_matrix}
+use Rattle.dec_parts.specs.Lower.{bound_in, Touches, lowered_entry, lowered_matrix}
 use Rattle.dec_parts.specs.Joined.{is_inside, with_taken, with_all_taken}
 
 -- ---- what one bound says of a place
@@ -296,3 +296,8 @@ all_taken-next vs m x bs k p e = (ap length e ∙ length-taken vs m (bound_in bs
   where
     first : drop k bs ≡ bound_in bs k ∷ drop (k + 1) bs
     first = rw add-one (drop-cons bs k _ p)
+
+-- what no bound touches stays
+pub all_taken-none : (vs : List ℕ) (m : Matrix) (bs : List OctBound) → (Touches bs vs → ⊥) → with_all_taken vs m bs ≡ m
+all_taken-none vs m [] d = refl
+all_taken-none vs m (b ∷ bs) d = ap (λ t. with_all_taken vs t bs) (sym (taken-out vs m b (λ p q. d (0, omega arith, inl p)))) ∙ all_taken-none vs m bs (λ t. d (suc t.0, omega (arith, t.1), t.2))
