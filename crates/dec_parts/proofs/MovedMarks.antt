@@ -1,15 +1,14 @@
 -- Which marks may be missing after added variables took the places of others.
-use Rattle.std.proofs.Common.{◌≡◌, ℕ, ◌+◌, ◌-◌, ◌*◌, ◌/◌, ◌%◌, ◌<◌, ◌≤◌, ◌⊎◌, inl, inr, Bool, true, false, List, length, Option, Some, None, refl, sym, ap, ◌∙◌, subst, arith, suc, zero, [], ◌∷◌}
-use Rattle.std.specs.Prelude.{◌↔◌}
+use Rattle.std.proofs.Common.{◌≡◌, ℕ, ◌+◌, ◌-◌, ◌*◌, ◌/◌, ◌%◌, ◌<◌, ◌≤◌, ◌⊎◌, inl, inr, false, List, length, Option, Some, None, refl, sym, ap, ◌∙◌, subst, arith, suc, zero, [], ◌∷◌}
 use Rattle.std.specs.List.{All}
 use Rattle.std.specs.Option.{option_map}
 use Rattle.std.proofs.lemmas.Bool.{cases_lt, both_ways}
-use Rattle.oct_def.specs.Table.{Matrix, table, at}
+use Rattle.oct_def.specs.Table.{Matrix, at}
 use Rattle.oct_def.specs.Tight.{tight}
 use Rattle.oct_def.proofs.Tables.{length-table, at-table, table-same}
-use Rattle.block_partition.specs.Partition.{member, block, home, IsIn, SameBlock, IsBlock}
+use Rattle.block_partition.specs.Partition.{member, block, home, IsIn, IsBlock}
 use Rattle.block_partition.proofs.Places.{member-place, in-member, home_in, home-in}
-use Rattle.block_partition.proofs.Unique.{IsRising, rising-unique}
+use Rattle.block_partition.proofs.Unique.{rising-unique}
 use Rattle.spl_core.specs.Facts.{AreDistinct}
 use Rattle.transfer_def.specs.Dimensions.{moved_variable, moved_dimension, moved_entry, moved}
 use Rattle.block_laws.specs.Assembly.{outer, restrict_entry, restrict, matrix}
@@ -19,7 +18,7 @@ use Rattle.block_laws.proofs.Restrict.{cases_in}
 use Rattle.block_laws.proofs.Assembly.{length-assembly, restrict-assembly}
 use Rattle.dec_oct.specs.Value.{Blocks, Decomposed, decomposed, marked, whole, octagon, IsDecomposition, IsKeptBlocks, IsKept}
 use Rattle.dec_oct.specs.Cost.{TellsAgain, TellsAgainOf}
-use Rattle.dec_parts.specs.Moving.{moved_value, KeepsOtherMarks, KeepsOtherMarksOf, IsChanged, HoldsTarget, WasBesideTarget, MarksAllButTargets, MarksAllButTargetsOf}
+use Rattle.dec_parts.specs.Moving.{moved_value, KeepsOtherMarks, KeepsOtherMarksOf, IsChanged, HoldsTarget, WasBesideTarget, MarksAllButTargetsOf}
 use Rattle.dec_parts.proofs.MovedVariables.{moved-found, moved-none}
 
 -- ---- entries that stay

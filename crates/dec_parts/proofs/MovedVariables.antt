@@ -1,16 +1,15 @@
 -- Added variables that take the places of others are new numbers of variables.
-use Rattle.std.proofs.Common.{◌≡◌, ℕ, ◌+◌, ◌*◌, ◌/◌, ◌%◌, ◌<◌, ◌≤◌, ◌⊎◌, inl, inr, Bool, true, List, length, get_or, Option, Some, None, refl, sym, ap, ◌∙◌, subst, arith, suc, zero, [], ◌∷◌, eqb, cond}
+use Rattle.std.proofs.Common.{◌≡◌, ℕ, ◌+◌, ◌*◌, ◌/◌, ◌%◌, ◌<◌, ◌≤◌, ◌⊎◌, inl, inr, List, length, Option, Some, None, refl, sym, ap, ◌∙◌, subst, arith, suc, zero, [], ◌∷◌}
 use Rattle.std.specs.Option.{option_map}
 use Rattle.std.proofs.lemmas.List.{get_or_past}
 use Rattle.std.proofs.lemmas.Bool.{cases_eq, cases_lt, cases_order, cond-true, cond-false, eq-eqb, ne_eqb}
 use Rattle.oct_def.specs.Table.{Matrix, table, at}
 use Rattle.oct_def.specs.Matrix.{IsEvenMatrix}
-use Rattle.oct_def.specs.Octagon.{Octagon}
 use Rattle.oct_def.proofs.Tables.{table-same}
 use Rattle.block_partition.specs.Partition.{member, block, IsIn, IsBlock}
 use Rattle.block_partition.proofs.Places.{in-member, member-place}
 use Rattle.transfer_def.specs.Dimensions.{moved_variable, moved_dimension, moved_entry, moved}
-use Rattle.dec_oct.specs.Value.{Blocks, Decomposed, marked, whole, octagon, octagon_of, IsDecomposition, IsKeptBlocks, IsKept}
+use Rattle.dec_oct.specs.Value.{Blocks, Decomposed, whole, octagon, octagon_of, IsDecomposition, IsKeptBlocks, IsKept}
 use Rattle.dec_parts.specs.Rename.{origin, renamed_entry, renamed_matrix, AreOrigins, renamed_value, AreUnmoved, KeepsOwnMarks, KeepsOwnMarksOf}
 use Rattle.dec_parts.specs.Moving.{AreMovedOrigins, moved_value, KeepsOtherMarks, KeepsOtherMarksOf}
 use Rattle.dec_parts.proofs.Renaming.{dimension-old, renamed-same, renamed-old}

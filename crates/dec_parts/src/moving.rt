@@ -1,5 +1,5 @@
 // Added variables, the last ones, that take the places of others.
-ghost use Rattle.std.specs.Prelude.{◌≡◌, ℕ, ◌+◌, ◌<◌, ◌≤◌, IfOk, length};
+ghost use Rattle.std.specs.Prelude.{◌≡◌, ◌+◌, ◌<◌, ◌≤◌, IfOk, length};
 ghost use Rattle.std.specs.List.{All};
 ghost use Rattle.spl_core.specs.Facts.{AreDistinct};
 ghost use Rattle.dec_oct.specs.Value.{octagon};

@@ -1,7 +1,7 @@
-use Rattle.std.proofs.Common.{◌≡◌, length, sym, subst, arith}
+use Rattle.std.proofs.Common.{◌≡◌, sym, subst, arith}
 use Rattle.dec_oct.specs.Value.{octagon}
 use Rattle.dec_parts.specs.Rename.{AreOrigins, renamed_value, KeepsOwnMarksOf}
-use Rattle.dec_parts.specs.Moving.{AreMovedOrigins, moved_value, KeepsOtherMarksOf}
+use Rattle.dec_parts.specs.Moving.{AreMovedOrigins}
 use Rattle.dec_parts.proofs.MovedVariables.{moved-origins, value-moved, marks-moved}
 use Rattle.dec_parts.proofs.MovedMarks.{marks-all_but}
 use Rattle.dec_parts.proofs.moving.moved.Goals as goal
