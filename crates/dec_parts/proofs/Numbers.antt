@@ -1,16 +1,14 @@
 -- Blocks under new numbers keep apart what the old ones keep apart.
-use Rattle.std.proofs.Common.{◌≡◌, ℕ, ◌+◌, ◌*◌, ◌/◌, ◌%◌, ◌<◌, ◌≤◌, ◌⊎◌, inl, inr, Bool, true, false, List, length, Option, Some, None, refl, sym, ap, ◌∙◌, subst, arith}
-use Rattle.std.specs.Prelude.{◌↔◌, pos}
-use Rattle.std.proofs.lemmas.Bool.{cases_eq, cases_lt}
+use Rattle.std.proofs.Common.{◌≡◌, ℕ, ◌+◌, ◌*◌, ◌/◌, ◌%◌, ◌<◌, ◌≤◌, ◌⊎◌, inl, inr, true, false, List, length, Option, Some, None, refl, sym, ap, ◌∙◌, subst, arith}
+use Rattle.std.proofs.lemmas.Bool.{cases_lt}
 use Rattle.std.proofs.lemmas.List.{get_or_past}
-use Rattle.oct_def.specs.Table.{Matrix, at}
-use Rattle.oct_def.specs.Matrix.{IsEvenMatrix}
+use Rattle.oct_def.specs.Table.{Matrix}
 use Rattle.oct_def.specs.Octagon.{top_entry}
-use Rattle.block_partition.specs.Partition.{member, block, home, SameBlock, IsBlock, IsPartition}
-use Rattle.block_partition.specs.Changes.{given_label, IsGroupedBy}
+use Rattle.block_partition.specs.Partition.{member, block, home, SameBlock, IsPartition}
+use Rattle.block_partition.specs.Changes.{given_label}
 use Rattle.block_laws.specs.Assembly.{is_joint, IsSeparated}
-use Rattle.block_laws.proofs.Assembly.{joint-from, joint-not, joint-gives, top_entry-off, top_entry-on}
-use Rattle.dec_parts.specs.Rename.{origin, renamed_entry, renamed_matrix, AreOrigins, IsAlone, IsNumber, AreNumbers, AreRenamedBlocks}
+use Rattle.block_laws.proofs.Assembly.{joint-from, joint-not, top_entry-off, top_entry-on}
+use Rattle.dec_parts.specs.Rename.{origin, renamed_entry, renamed_matrix, AreOrigins, IsAlone, AreRenamedBlocks}
 use Rattle.dec_parts.proofs.Renaming.{Comes, same, between, nowhere, comes, at-renamed}
 
 -- ---- which variables share a block

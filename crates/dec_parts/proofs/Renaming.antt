@@ -1,15 +1,15 @@
 -- A matrix under new numbers of its variables.
-use Rattle.std.proofs.Common.{◌≡◌, ℕ, ◌+◌, ◌*◌, ◌/◌, ◌%◌, ◌<◌, ◌⊎◌, inl, inr, Bool, true, false, cond, eqb, List, length, Option, Some, None, refl, sym, ap, ◌∙◌, subst, arith}
+use Rattle.std.proofs.Common.{◌≡◌, ℕ, ◌+◌, ◌*◌, ◌/◌, ◌%◌, ◌<◌, ◌⊎◌, inl, inr, Bool, cond, List, length, Option, Some, None, refl, sym, ap, ◌∙◌, subst, arith}
 use Rattle.std.specs.Prelude.{pos}
 use Rattle.std.proofs.lemmas.Int.{ints}
 use Rattle.std.proofs.lemmas.Bool.{eq-eqb, ne_eqb, cases_eq}
-use Rattle.oct_def.specs.Bound.{Bound, InRange, IsEven}
-use Rattle.oct_def.specs.Table.{Matrix, table, at}
+use Rattle.oct_def.specs.Bound.{InRange, IsEven}
+use Rattle.oct_def.specs.Table.{Matrix, at}
 use Rattle.oct_def.specs.Matrix.{opposite, IsCoherent, IsEvenMatrix}
 use Rattle.oct_def.proofs.Tables.{length-table, at-table, square-table, table-same}
 use Rattle.oct_def.proofs.Coherent.{coherent-table}
 use Rattle.oct_def.proofs.Values.{each-table, EvenUnary, even_unary-table}
-use Rattle.block_partition.specs.Partition.{member, IsBlock}
+use Rattle.block_partition.specs.Partition.{IsBlock}
 use Rattle.block_laws.specs.Assembly.{outer, restrict_entry, restrict}
 use Rattle.block_laws.proofs.Places.{outer-half, outer_below}
 use Rattle.dec_parts.specs.Rename.{origin, signed_origin, origin_dimension, picked, renamed_entry, renamed_matrix, AreOrigins, KeepNumbers}

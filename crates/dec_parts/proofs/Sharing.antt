@@ -1,19 +1,18 @@
 -- The value under new numbers, and the marks that it keeps.
 use Rattle.std.proofs.Common.{◌≡◌, ℕ, ◌+◌, ◌*◌, ◌<◌, ◌≤◌, ◌⊎◌, inl, inr, Bool, true, false, List, length, Option, Some, None, refl, sym, ap, ◌∙◌, subst, arith}
-use Rattle.std.specs.Prelude.{◌↔◌, IsSome, IfSome}
+use Rattle.std.specs.Prelude.{IsSome, IfSome}
 use Rattle.std.specs.Option.{option_map}
 use Rattle.std.proofs.lemmas.Bool.{cases_lt}
 use Rattle.oct_def.specs.Table.{Matrix, at}
 use Rattle.oct_def.specs.Matrix.{opposite, IsSquare, IsCoherent, IsEvenMatrix}
-use Rattle.oct_def.specs.Tight.{tight}
 use Rattle.oct_def.specs.Octagon.{bottom_value}
 use Rattle.block_partition.specs.Partition.{member, block, home, IsIn, SameBlock, IsBlock, IsPartition}
 use Rattle.block_partition.specs.Changes.{given_label}
 use Rattle.block_partition.proofs.Places.{home_in, home-in, in-member, block_count}
-use Rattle.block_partition.proofs.Unique.{IsRising, IsWithin, rising-unique}
-use Rattle.block_laws.specs.Assembly.{outer, matrix, restrict, assembly, IsSeparated}
-use Rattle.block_laws.proofs.Assembly.{length-assembly, separated-assembly, restrict-assembly}
-use Rattle.dec_oct.specs.Value.{Blocks, blocks_of, whole, marked, Decomposed, decomposed, octagon, octagon_of, IsSettled, IsDecomposition, IsKeptBlocks, IsKept}
+use Rattle.block_partition.proofs.Unique.{IsRising, rising-unique}
+use Rattle.block_laws.specs.Assembly.{outer, matrix, restrict, assembly}
+use Rattle.block_laws.proofs.Assembly.{separated-assembly, restrict-assembly}
+use Rattle.dec_oct.specs.Value.{Blocks, blocks_of, whole, marked, Decomposed, decomposed, octagon, octagon_of, IsDecomposition, IsKeptBlocks, IsKept}
 use Rattle.dec_oct.specs.Cost.{IsMarkedBlock}
 use Rattle.dec_oct.specs.Given.{IsEvenGiven, KeepsMarks, KeepsMarksOf}
 use Rattle.block_laws.proofs.Places.{outer_below}
@@ -43,7 +42,7 @@ pub part-of_moved : (n : ℕ) (origins : List (Option ℕ)) (a : Blocks) (vs : L
     → ((i j : ℕ) → i < 2 * length vs → j < opposite i + 1 → at m i j ≡ renamed_entry origins (whole n a) (outer vs i) (outer vs j)) → IsRenamedPart n origins a vs m false
 part-of_moved n origins a vs m d o bl k e sq co h = record {
   words = part-is (length origins) vs (renamed_matrix origins (whole n a)) m bl v.matrix.rows v.matrix.coherent e sq co (λ i j p q.
-    h i j p q ∙ sym (at-renamed origins (whole n a) (outer vs i) (outer vs j) (outer_below (length origins) vs i bl p) (outer_below (length origins) vs j bl (stored-below (length vs) i j p q))));
+      h i j p q ∙ sym (at-renamed origins (whole n a) (outer vs i) (outer vs j) (outer_below (length origins) vs i bl p) (outer_below (length origins) vs j bl (stored-below (length vs) i j p q))));
   yes = λ g. absurd (cc);
   kept = λ g _. absurd (k g);
 }

@@ -1,4 +1,4 @@
-use Rattle.std.proofs.Common.{refl}
+use Rattle.std.proofs.Common.{rules}
 use Rattle.dec_parts.proofs.Numbers.{renamed-partition}
 use Rattle.dec_parts.proofs.Sharing.{given-made, value-made, value-bottom, marks-made}
 use Rattle.dec_parts.proofs.rename.renamed.Goals as goal
@@ -10,18 +10,7 @@ pub from_parts-requires-clause-given : goal.from_parts-requires-clause-given
 from_parts-requires-clause-given c =
     let v = c.args.v.now in
     let p = c.in_ok-parts-in-Some.parts in
-    given-made v.dims c.args.origins.now v.blocks c.in-Some.p.now c.in_ok-made-in-Some.made p.dims p.partition p.matrices.items p.settled.items (record {
-      small = c.known.ensures.small;
-      old = c.known.ensures.blocks;
-      some = c.in-Some.ensures.some refl;
-      origins_in = c.requires.origins;
-      own = c.in-Some.ensures.blocks;
-      blocks = c.in_ok-made-in-Some.ensures;
-      partition = c.known-in-Some.ensures.partition;
-      dims = c.in_ok-parts-in-Some.ensures.dims;
-      same = c.in_ok-parts-in-Some.ensures.partition;
-      parts = c.in_ok-parts-in-Some.ensures.parts;
-    })
+    given-made v.dims c.args.origins.now v.blocks c.in-Some.p.now c.in_ok-made-in-Some.made p.dims p.partition p.matrices.items p.settled.items (search rules)
 
 pub returns-in-None-clause-value : goal.returns-in-None-clause-value
 returns-in-None-clause-value c =
@@ -32,32 +21,10 @@ pub returns-in_ok-r-in-Some-clause-value : goal.returns-in_ok-r-in-Some-clause-v
 returns-in_ok-r-in-Some-clause-value c =
     let v = c.args.v.now in
     let p = c.in_ok-parts-in-Some.parts in
-    value-made v.dims c.args.origins.now v.blocks c.in-Some.p.now c.in_ok-made-in-Some.made p.dims p.partition p.matrices.items p.settled.items c.in_ok-r-in-Some.r (record {
-      small = c.known.ensures.small;
-      old = c.known.ensures.blocks;
-      some = c.in-Some.ensures.some refl;
-      origins_in = c.requires.origins;
-      own = c.in-Some.ensures.blocks;
-      blocks = c.in_ok-made-in-Some.ensures;
-      partition = c.known-in-Some.ensures.partition;
-      dims = c.in_ok-parts-in-Some.ensures.dims;
-      same = c.in_ok-parts-in-Some.ensures.partition;
-      parts = c.in_ok-parts-in-Some.ensures.parts;
-    }) c.in_ok-r-in-Some.ensures.value
+    value-made v.dims c.args.origins.now v.blocks c.in-Some.p.now c.in_ok-made-in-Some.made p.dims p.partition p.matrices.items p.settled.items c.in_ok-r-in-Some.r (search rules) c.in_ok-r-in-Some.ensures.value
 
 pub returns-in_ok-r-in-Some-clause-marks : goal.returns-in_ok-r-in-Some-clause-marks
 returns-in_ok-r-in-Some-clause-marks c =
     let v = c.args.v.now in
     let p = c.in_ok-parts-in-Some.parts in
-    marks-made v.dims c.args.origins.now v.blocks c.in-Some.p.now c.in_ok-made-in-Some.made p.dims p.partition p.matrices.items p.settled.items c.in_ok-r-in-Some.r (record {
-      small = c.known.ensures.small;
-      old = c.known.ensures.blocks;
-      some = c.in-Some.ensures.some refl;
-      origins_in = c.requires.origins;
-      own = c.in-Some.ensures.blocks;
-      blocks = c.in_ok-made-in-Some.ensures;
-      partition = c.known-in-Some.ensures.partition;
-      dims = c.in_ok-parts-in-Some.ensures.dims;
-      same = c.in_ok-parts-in-Some.ensures.partition;
-      parts = c.in_ok-parts-in-Some.ensures.parts;
-    }) c.in_ok-r-in-Some.ensures.value c.known-in-Some-2.ensures c.in_ok-r-in-Some.ensures.marks
+    marks-made v.dims c.args.origins.now v.blocks c.in-Some.p.now c.in_ok-made-in-Some.made p.dims p.partition p.matrices.items p.settled.items c.in_ok-r-in-Some.r (search rules) c.in_ok-r-in-Some.ensures.value c.known-in-Some-2.ensures c.in_ok-r-in-Some.ensures.marks
