@@ -1,12 +1,12 @@
 -- Blocks that listed bounds join keep apart what no bound joins, and are the components of the matrix that takes the bounds.
-use Rattle.std.proofs.Common.{◌≡◌, ℕ, ◌+◌, ◌*◌, ◌/◌, ◌<◌, ◌≤◌, ◌⊎◌, inl, inr, Bool, true, false, List, [], ◌∷◌, length, get_or, Some, None, refl, sym, ap, ◌∙◌, subst, arith, zero, suc}
-use Rattle.std.specs.Prelude.{◌↔◌, pos}
+use Rattle.std.proofs.Common.{◌≡◌, ℕ, ◌+◌, ◌*◌, ◌/◌, ◌<◌, ◌≤◌, ◌⊎◌, inl, inr, Bool, true, false, List, [], ◌∷◌, length, Some, None, refl, sym, ap, ◌∙◌, subst, arith, zero, suc}
+use Rattle.std.specs.Prelude.{pos}
 use Rattle.std.specs.List.{All}
-use Rattle.std.proofs.lemmas.Bool.{cases_eq, cases_Bool, cases_lt, cond-false}
+use Rattle.std.proofs.lemmas.Bool.{cases_eq, cases_Bool, cond-false}
 use Rattle.std.proofs.lemmas.Int.{ints}
 use Rattle.oct_def.specs.Bound.{Bound, InRange, least, bound_of}
-use Rattle.oct_def.specs.Table.{Matrix, table, at}
-use Rattle.oct_def.specs.Matrix.{opposite, IsSquare, IsCoherent, IsEvenMatrix}
+use Rattle.oct_def.specs.Table.{Matrix, at}
+use Rattle.oct_def.specs.Matrix.{opposite, IsCoherent, IsEvenMatrix}
 use Rattle.oct_def.specs.Octagon.{top_entry}
 use Rattle.oct_def.proofs.Orders.{least_none, least_comm}
 use Rattle.oct_def.proofs.Tables.{length-table, at-table, square-table}
@@ -17,14 +17,13 @@ use Rattle.oct_def.proofs.WordBounds.{bound_of-other}
 use Rattle.interval_form.specs.declared.constraints.OctBound.{OctBound}
 use Rattle.interval_form.specs.Listed.{IsPlaced}
 use Rattle.interval_form.specs.Listing.{is_at, listed}
-use Rattle.block_partition.specs.Partition.{member, block, home, SameBlock, IsIn, IsBlock, IsPartition}
+use Rattle.block_partition.specs.Partition.{member, block, home, SameBlock, IsPartition}
 use Rattle.block_partition.specs.Changes.{IsNear, IsMergedBy}
 use Rattle.block_laws.specs.Assembly.{is_joint, matrix, assembly, IsSeparated}
 use Rattle.block_laws.specs.Components.{Joins, Linked, One, More, IsComponents}
-use Rattle.block_laws.proofs.Assembly.{joint-from, joint-not, joint-gives, length-assembly, separated-assembly}
+use Rattle.block_laws.proofs.Assembly.{joint-from, joint-not, separated-assembly}
 use Rattle.block_laws.proofs.Components.{linked-same, same_block-sym}
 use Rattle.dec_oct.specs.Value.{Blocks, blocks_of, whole, IsDecomposition, IsSettled}
-use Rattle.dec_oct.specs.Cost.{IsMarkedBlock}
 use Rattle.dec_oct.proofs.Walks.{joins-at, joins-turned}
 use Rattle.dec_oct.proofs.Extended.{placed-small}
 use Rattle.dec_oct.proofs.Flags.{marked-again}
@@ -167,8 +166,8 @@ unfolding lowered_matrix lowered_entry
 coherent-lowered n bounds x e co = coherent-table n (lowered_entry bounds x) (λ i j p q.
     ap (λ t. least t (least (listed bounds i j) (listed bounds (opposite j) (opposite i)))) (co.twins i j (omega arith) (omega arith))
     ∙ ap (least (at x (opposite j) (opposite i))) (
-      least_comm (listed bounds i j) (listed bounds (opposite j) (opposite i))
-      ∙ ap (least (listed bounds (opposite j) (opposite i))) (sym (ap (λ t. listed bounds t (opposite (opposite j))) (opposite_twice i) ∙ ap (listed bounds i) (opposite_twice j)))
+    least_comm (listed bounds i j) (listed bounds (opposite j) (opposite i))
+    ∙ ap (least (listed bounds (opposite j) (opposite i))) (sym (ap (λ t. listed bounds t (opposite (opposite j))) (opposite_twice i) ∙ ap (listed bounds i) (opposite_twice j)))
     ))
 
 -- nothing is listed where no bound stands
@@ -279,7 +278,7 @@ components-lowered n a bounds cs d placed off h = record {
           One _ _ (joins-at x (b.row / 2) (b.column / 2) b.row b.column (omega (arith, rows)) (omega (arith, rows)) refl refl (
             off i p,
             subst (λ t. t ≡ None → ⊥) (sym (at-lowered n bounds (whole n a) b.row b.column r c))
-            (finite-right (at (whole n a) b.row b.column) _ (finite-left (listed bounds b.row b.column) _ (listed-finite n bounds i placed p))),
+                (finite-right (at (whole n a) b.row b.column) _ (finite-left (listed bounds b.row b.column) _ (listed-finite n bounds i placed p))),
           ));
     }
 

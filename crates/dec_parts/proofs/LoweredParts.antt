@@ -1,5 +1,5 @@
 -- Parts that took listed bounds, pushed in turn.
-use Rattle.std.proofs.Common.{◌≡◌, ℕ, ◌+◌, ◌*◌, ◌<◌, ◌⊎◌, inl, inr, Bool, true, false, List, [], ◌∷◌, ◌++◌, length, length-append, Option, Some, None, refl, sym, ap, ◌∙◌, subst, arith}
+use Rattle.std.proofs.Common.{◌≡◌, ℕ, ◌+◌, ◌*◌, ◌<◌, ◌⊎◌, inl, inr, Bool, true, false, List, [], ◌∷◌, ◌++◌, length, length-append, Option, Some, None, sym, ap, ◌∙◌, subst, arith}
 use Rattle.std.specs.Prelude.{IfSome, IsSome}
 use Rattle.std.specs.List.{All}
 use Rattle.std.proofs.lemmas.Bool.{cases_eq, cases_Bool}
@@ -10,7 +10,7 @@ use Rattle.interval_form.specs.Listed.{IsPlaced}
 use Rattle.block_partition.specs.Partition.{block, IsBlock}
 use Rattle.block_laws.specs.Assembly.{matrix, restrict}
 use Rattle.block_laws.proofs.Restrict.{length-restrict}
-use Rattle.dec_oct.specs.Value.{Blocks, blocks_of, marked, whole, IsDecomposition, IsKeptBlocks}
+use Rattle.dec_oct.specs.Value.{Blocks, blocks_of, marked, whole, decomposed, IsDecomposition, IsKept, IsKeptBlocks}
 use Rattle.dec_oct.specs.Cost.{IsMarkedBlock}
 use Rattle.dec_parts.specs.Lower.{Touches, IsLowered}
 use Rattle.dec_parts.specs.Joined.{with_all_taken, IsJoinedBy, IsLoweredPart, AreLoweredParts}
@@ -56,10 +56,6 @@ pub record LoweredSoFar (n : ℕ) (a : Blocks) (bounds : List OctBound) (ds : Li
   pub size : length marks ≡ c
   pub each : (k : ℕ) → k < c → IsLoweredPart n a bounds (block ds k) (matrix ms k) (marked marks k)
 
-pub no-parts : (n : ℕ) (o : Option Blocks) (bounds : List OctBound) (ds : List (List ℕ)) → IfSome o (λ b. LoweredSoFar n b bounds ds 0 [] [])
-no-parts n None bounds ds = tt
-no-parts n (Some a) bounds ds = record { count = refl; size = refl; each = λ k p. absurd (omega arith) }
-
 more : (n : ℕ) (a : Blocks) (bounds : List OctBound) (ds : List (List ℕ)) (c : ℕ) (ms : List Matrix) (marks : List Bool) (m : Matrix) (mark : Bool) → LoweredSoFar n a bounds ds c ms marks → IsLoweredPart n a bounds (block ds c) m mark
     → LoweredSoFar n a bounds ds (c + 1) (ms ++ m ∷ []) (marks ++ mark ∷ [])
 more n a bounds ds c ms marks m mark s part = record {
@@ -91,8 +87,8 @@ all-parts n (Some a) bounds ds c ms marks s e = record { count = s.count ∙ e; 
 
 -- ---- the value
 
-pub lowered-value : (n k : ℕ) (o : Option Blocks) (bounds : List OctBound) (ps cs ds : List (List ℕ)) (ms : List Matrix) (marks : List Bool) → IsKeptBlocks n o → All (IsPlaced n) bounds → IfSome o (λ b. ps ≡ b.partition) → k ≡ n → IsJoinedBy k ps bounds (length bounds) cs
+pub lowered-value : (n k : ℕ) (o : Option Blocks) (bounds : List OctBound) (ps cs ds : List (List ℕ)) (ms : List Matrix) (marks : List Bool) → IsKept (decomposed n o) → All (IsPlaced n) bounds → IfSome o (λ b. ps ≡ b.partition) → k ≡ n → IsJoinedBy k ps bounds (length bounds) cs
     → ds ≡ cs → IfSome o (λ b. AreLoweredParts n b bounds cs ms marks) → IfSome o (λ b. IsLowered n b bounds (blocks_of ds ms marks))
 lowered-value n k None bounds ps cs ds ms marks d placed e f j g s = tt
 lowered-value n k (Some a) bounds ps cs ds ms marks d placed e f j g s =
-    subst (λ t. IsLowered n a bounds (blocks_of t ms marks)) (sym g) (lowered-is n a bounds cs ms marks d placed (subst (λ t. IsJoinedBy n t bounds (length bounds) cs) e (subst (λ t. IsJoinedBy t ps bounds (length bounds) cs) f j)) s)
+    subst (λ t. IsLowered n a bounds (blocks_of t ms marks)) (sym g) (lowered-is n a bounds cs ms marks d.blocks placed (subst (λ t. IsJoinedBy n t bounds (length bounds) cs) e (subst (λ t. IsJoinedBy t ps bounds (length bounds) cs) f j)) s)

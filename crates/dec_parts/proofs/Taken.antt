@@ -1,5 +1,5 @@
 -- Parts that take listed bounds are the parts of the whole matrix that takes them.
-use Rattle.std.proofs.Common.{◌≡◌, ℕ, ◌*◌, ◌/◌, ◌<◌, ◌≤◌, ◌⊎◌, inl, inr, Bool, true, false, cond, List, [], ◌∷◌, length, Some, None, refl, sym, ap, ◌∙◌, subst, arith, ◌+◌, ◌%◌, drop, add-one, drop-cons, suc}
+use Rattle.std.proofs.Common.{◌≡◌, ℕ, ◌*◌, ◌/◌, ◌<◌, ◌⊎◌, inl, inr, Bool, true, false, cond, List, [], ◌∷◌, length, None, refl, sym, ap, ◌∙◌, subst, arith, ◌+◌, ◌%◌, drop, add-one, drop-cons, suc}
 use Rattle.std.proofs.lemmas.Bool.{cases_Bool, cond-true, cond-false, eqb-true, eq-eqb, lt-ltb, ltb-true, and_from, and_parts}
 use Rattle.std.specs.Prelude.{nat_eq}
 use Rattle.oct_def.specs.Bound.{Bound, InRange, least, bound_of}
@@ -7,7 +7,7 @@ use Rattle.oct_def.specs.Table.{Matrix, table, at}
 use Rattle.oct_def.specs.Matrix.{opposite, IsSquare, IsCoherent}
 use Rattle.oct_def.proofs.Bounds.{least_self}
 use Rattle.oct_def.proofs.Orders.{least_none, least_comm, least_assoc, least_swap}
-use Rattle.oct_def.proofs.Tables.{length-table, at-table, square-table, is-table}
+use Rattle.oct_def.proofs.Tables.{at-table, square-table, is-table}
 use Rattle.oct_def.proofs.Coherent.{coherent-table}
 use Rattle.oct_def.proofs.Indices.{opposite_twice, opposite_below}
 use Rattle.interval_form.specs.declared.constraints.OctBound.{OctBound}
@@ -206,8 +206,8 @@ at-taken n vs m b bl e co r c p q = by (cases_Bool (is_inside vs b))
         which (inr g) =
             read ∙ cond-false _ _ _ g ∙ sym (least_none (at m r c))
             ∙ sym (ap (least (at m r c)) (
-              ap (λ t. least t (one b (outer vs (opposite c)) (outer vs (opposite r)))) (out r c p q (λ x y. let z = of_same i j r c (inl (x, y)) in cc))
-              ∙ out (opposite c) (opposite r) q' p' (λ x y. let z = of_same i j r c (inr (sym (opposite_twice r) ∙ ap opposite y, sym (opposite_twice c) ∙ ap opposite x)) in cc)
+            ap (λ t. least t (one b (outer vs (opposite c)) (outer vs (opposite r)))) (out r c p q (λ x y. let z = of_same i j r c (inl (x, y)) in cc))
+            ∙ out (opposite c) (opposite r) q' p' (λ x y. let z = of_same i j r c (inr (sym (opposite_twice r) ∙ ap opposite y, sym (opposite_twice c) ∙ ap opposite x)) in cc)
             ))
         which (inl g) = read ∙ cond-true _ _ _ g ∙ side (same_of i j r c g)
           where

@@ -1,4 +1,4 @@
-use Rattle.std.proofs.Common.{◌≡◌, length, ap, ◌∙◌}
+use Rattle.std.proofs.Common.{length, ap, ◌∙◌}
 use Rattle.dec_parts.proofs.LoweredParts.{part-rows, untouched-part, touched-part}
 use Rattle.dec_parts.proofs.lower.lowered_part.Goals as goal
 

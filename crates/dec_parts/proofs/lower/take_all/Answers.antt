@@ -1,4 +1,4 @@
-use Rattle.std.proofs.Common.{◌∙◌, arith}
+use Rattle.std.proofs.Common.{◌∙◌}
 use Rattle.dec_parts.proofs.Taken.{all_taken-next}
 use Rattle.dec_parts.proofs.lower.take_all.Goals as goal
 
