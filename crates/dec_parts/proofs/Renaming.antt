@@ -75,10 +75,6 @@ comes origins m i j = by (cases_eq i j) (origin origins (i / 2)) (origin origins
 
 -- ---- the matrix
 
-pub length-renamed : (origins : List (Option ℕ)) (m : Matrix) → length (renamed_matrix origins m) ≡ 2 * length origins
-unfolding renamed_matrix
-length-renamed origins m = length-table (2 * length origins) (renamed_entry origins m)
-
 pub at-renamed : (origins : List (Option ℕ)) (m : Matrix) (i j : ℕ) → i < 2 * length origins → j < 2 * length origins → at (renamed_matrix origins m) i j ≡ renamed_entry origins m i j
 unfolding renamed_matrix
 at-renamed origins m i j p q = at-table (2 * length origins) (renamed_entry origins m) i j p q
