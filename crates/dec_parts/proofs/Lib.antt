@@ -1,4 +1,4 @@
-pub mod Renamed
+pub mod Renaming
 pub mod Numbers
 pub mod Sharing
 pub mod Taken

@@ -11,7 +11,7 @@ use Rattle.block_partition.specs.Changes.{given_label, IsGroupedBy}
 use Rattle.block_laws.specs.Assembly.{is_joint, IsSeparated}
 use Rattle.block_laws.proofs.Assembly.{joint-from, joint-not, joint-gives, top_entry-off, top_entry-on}
 use Rattle.dec_parts.specs.Rename.{origin, renamed_entry, renamed_matrix, AreOrigins, IsAlone, IsNumber, AreNumbers, AreRenamedBlocks}
-use Rattle.dec_parts.proofs.Renamed.{Comes, same, between, nowhere, comes, at-renamed}
+use Rattle.dec_parts.proofs.Renaming.{Comes, same, between, nowhere, comes, at-renamed}
 
 -- ---- which variables share a block
 

@@ -18,7 +18,7 @@ use Rattle.dec_oct.specs.Given.{IsEvenGiven, KeepsMarks, KeepsMarksOf}
 use Rattle.dec_oct.proofs.Flags.{marked-again}
 use Rattle.dec_oct.proofs.Givens.{ArePartsOf, whole-of, even_given-of}
 use Rattle.dec_parts.specs.Rename.{origin, renamed_matrix, renamed_value, AreOrigins, AreUnmoved, KeepsOwnMarks, KeepsOwnMarksOf, IsAlone, AreRenamedBlocks, IsRenamedPart, AreRenamedParts}
-use Rattle.dec_parts.proofs.Renamed.{even-renamed, length-renamed, part-kept}
+use Rattle.dec_parts.proofs.Renaming.{even-renamed, length-renamed, part-kept}
 use Rattle.dec_parts.proofs.Numbers.{same-held, separated-renamed}
 
 -- what the renaming of blocks gave
