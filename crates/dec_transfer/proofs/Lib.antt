@@ -1,3 +1,3 @@
-pub mod Forgetting
+pub mod Forgotten
 pub mod Bounding
 pub mod Costs

@@ -9,7 +9,7 @@ use Rattle.oct_def.proofs.Tables.{table-same}
 use Rattle.block_laws.proofs.Assembly.{top_entry-off, top_entry-on}
 use Rattle.transfer_def.specs.Forget.{forgotten_entry, forgotten}
 use Rattle.dec_parts.specs.Rename.{origin, renamed_entry, renamed_matrix}
-use Rattle.dec_parts.proofs.Renamed.{dimension-old, dimension-new, renamed-same, renamed-old, renamed-new_row, renamed-new_column}
+use Rattle.dec_parts.proofs.Renaming.{dimension-old, dimension-new, renamed-same, renamed-old, renamed-new_row, renamed-new_column}
 use Rattle.dec_transfer.specs.Forgotten.{AreOthers}
 
 forgotten-row : (x : ℕ) (m : Matrix) (i j : ℕ) → i / 2 ≡ x → forgotten_entry x m i j ≡ top_entry i j
