@@ -1,3 +1,3 @@
 pub mod Forgotten
-pub mod Bounding
+pub mod Lowering
 pub mod Costs
