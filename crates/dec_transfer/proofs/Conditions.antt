@@ -84,6 +84,14 @@ below-is n a b m ranges f g k r q h c d e =
 
 -- ---- values
 
+pub dims-at_most : (a b : Expression) (v w : Octagon) → w ≡ at_most_value a b v → w.dims ≡ v.dims
+unfolding at_most_value
+dims-at_most a b v w e = ap (λ (t : Octagon). t.dims) e
+
+pub dims-below : (a b c d : Expression) (v x y : Octagon) → x ≡ below_value a b v → y ≡ below_value c d v → x.dims ≡ y.dims
+unfolding below_value
+dims-below a b c d v x y e f = ap (λ (t : Octagon). t.dims) e ∙ sym (ap (λ (t : Octagon). t.dims) f)
+
 pub over-dims : (n k : ℕ) (e : Expression) → n ≡ k → IsOver k e → IsOver n e
 over-dims n k e p h = subst (λ i. IsOver i e) (sym p) h
 
