@@ -164,10 +164,5 @@ or-true w c d e v r s t p b h k j =
     j ∙ (ap (λ (x : Octagon). join_value x s) h ∙ (ap (join_value (test_value c true v)) k
     ∙ (ap (λ (x : Condition). test_value x true v) p ∙ sym (ap (λ (x : Bool). test_value e x v) b))))
 
--- ---- comparisons and constants
-
-pub compared-is : (k j r : Cmp) (w : Bool) (a b : Expression) (v x : Octagon) → j ≡ k → compare_value j true a b v ≡ compare_value r w a b v → x ≡ compare_value k true a b v → x ≡ compare_value r w a b v
-compared-is k j r w a b v x e h q = q ∙ (ap (λ (i : Cmp). compare_value i true a b v) (sym e) ∙ h)
-
 pub found : (c : Parts) → NumbersStandForNodes → IsCore c → (k : ℕ) (r x : CoreCond) → k < length c.conds → r ≡ get_or c.conds k r → r ≡ x → cond_over (exprs_in c) (conds_in c) x ≡ cond_at (conds_in c) k
 found c law w k r x l h e = ap (cond_over (exprs_in c) (conds_in c)) (sym e) ∙ condition_node c law w k r l h
