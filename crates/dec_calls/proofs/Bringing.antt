@@ -1,0 +1,1 @@
+-- The caller's matrix that takes the exit's entries but for the diagonal is the joined matrix.

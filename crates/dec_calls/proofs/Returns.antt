@@ -1,0 +1,1 @@
+-- The value after a call.
