@@ -17,14 +17,17 @@ use Rattle.dec_calls.specs.Brought.{off_diagonal, without_diagonal, standing, Li
 
 -- ---- a matrix without its diagonal
 
-pub diagonal-none : (n i j : ℕ) (o : Option Blocks) → i ≡ j → IfSome o (λ e. None ≡ off_diagonal (whole n e) i j)
+pub diagonal-same : (m : Matrix) (i j : ℕ) → i ≡ j → off_diagonal m i j ≡ None
 unfolding off_diagonal
-diagonal-none n i j None e = tt
-diagonal-none n i j (Some b) e = sym (cond-true _ _ _ (eq-eqb i j e))
+diagonal-same m i j e = cond-true _ _ _ (eq-eqb i j e)
 
 pub diagonal-other : (m : Matrix) (i j : ℕ) → (i ≡ j → ⊥) → off_diagonal m i j ≡ at m i j
 unfolding off_diagonal
 diagonal-other m i j d = cond-false _ _ _ (ne_eqb i j d)
+
+pub diagonal-none : (n i j : ℕ) (o : Option Blocks) → i ≡ j → IfSome o (λ e. None ≡ off_diagonal (whole n e) i j)
+diagonal-none n i j None e = tt
+diagonal-none n i j (Some b) e = sym (diagonal-same (whole n b) i j e)
 
 pub at-without : (m : Matrix) (i j : ℕ) → i < length m → j < length m → at (without_diagonal m) i j ≡ off_diagonal m i j
 unfolding without_diagonal
