@@ -47,13 +47,13 @@ covers-least_below a (suc n) f h = covers-both a (f n) (least_below n f) (h n (o
 least_below-covers : (n : ℕ) (f : ℕ → Bound) (i : ℕ) → i < n → Covers (least_below n f) (f i)
 unfolding least_below
 least_below-covers zero f i p = absurd (omega arith)
-least_below-covers (suc n) f i p = by (cases_eq i n)
+least_below-covers (suc n) f i p = by (cases_eq i n) (λ (q : i < n). least_below-covers n f i q)
   where
-    by : (i ≡ n) ⊎ (i ≡ n → ⊥) → Covers (least (f n) (least_below n f)) (f i)
-    by (inl e) = subst (λ k. Covers (least (f n) (least_below n f)) (f k)) (sym e) (covers-first (f n) (least_below n f))
-    by (inr d) =
+    by : (i ≡ n) ⊎ (i ≡ n → ⊥) → (i < n → Covers (least_below n f) (f i)) → Covers (least (f n) (least_below n f)) (f i)
+    by (inl e) more = subst (λ k. Covers (least (f n) (least_below n f)) (f k)) (sym e) (covers-first (f n) (least_below n f))
+    by (inr d) more =
         let q : i < n = grind (arith, d) in
-        covers-trans (least (f n) (least_below n f)) (least_below n f) (f i) (covers-second (f n) (least_below n f)) (least_below-covers n f i q)
+        covers-trans (least (f n) (least_below n f)) (least_below n f) (f i) (covers-second (f n) (least_below n f)) (more q)
 
 -- ---- what a matrix says of inputs and outputs
 

@@ -4,10 +4,11 @@ use Rattle.std.specs.Prelude.{IfSome, IsSome}
 use Rattle.std.specs.Option.{option_map}
 use Rattle.oct_def.specs.Table.{Matrix}
 use Rattle.oct_def.specs.Tight.{tight}
-use Rattle.oct_def.specs.Octagon.{Octagon}
+use Rattle.oct_def.specs.Octagon.{Octagon, bottom_value}
 use Rattle.interval_form.specs.declared.constraints.OctBound.{OctBound}
 use Rattle.transfer_def.specs.Dimensions.{moved}
 use Rattle.transfer_def.specs.Back.{joined, back_value}
+use Rattle.transfer_def.proofs.Moves.{back-bottom_caller, back-bottom_exit}
 use Rattle.dec_oct.specs.Value.{Blocks, Decomposed, decomposed, octagon, octagon_of, whole, IsDecomposition, IsKeptBlocks, IsKept}
 use Rattle.dec_oct.specs.Given.{IsLooseGiven}
 use Rattle.dec_parts.specs.Lower.{lowered_matrix, IsLowered}
@@ -35,6 +36,17 @@ back-is caller exit args outputs targets bounds r k hc hx fit sc sx brought afte
         → IfSome p (λ e. AreBrought caller.dims args outputs (whole exit.dims e) bounds)
         → IfSome o (λ a. r ≡ moved_value caller.dims targets (octagon_of (caller.dims + length targets) (tight (lowered_matrix (caller.dims + length targets) bounds (whole (caller.dims + length targets) a)))))
         → r ≡ back_value (octagon (decomposed caller.dims o)) (octagon (decomposed exit.dims p)) args outputs targets
-    by None p ho hp so sp b t = absurd so
-    by (Some a) None ho hp so sp b t = absurd sp
+    by None p ho hp so sp b t = absurd (cc)
+    by (Some a) None ho hp so sp b t = absurd (cc)
     by (Some a) (Some e) ho hp so sp b t = t ∙ back-blocks caller.dims exit.dims args outputs targets a e bounds k ho hp fit b
+
+-- Bottom on either side
+pub back-no_caller : (caller exit : Decomposed) (args : List ℕ) (outputs : ℕ) (targets : List ℕ) → caller.blocks ≡ None → back_value (octagon caller) (octagon exit) args outputs targets ≡ bottom_value caller.dims
+unfolding bottom_value
+back-no_caller caller exit args outputs targets e =
+    ap (λ o. back_value (octagon (decomposed caller.dims o)) (octagon exit) args outputs targets) e ∙ back-bottom_caller caller.dims (octagon exit) args outputs targets
+
+pub back-no_exit : (caller exit : Decomposed) (args : List ℕ) (outputs : ℕ) (targets : List ℕ) → exit.blocks ≡ None → back_value (octagon caller) (octagon exit) args outputs targets ≡ bottom_value caller.dims
+unfolding bottom_value
+back-no_exit caller exit args outputs targets e =
+    ap (λ o. back_value (octagon caller) (octagon (decomposed exit.dims o)) args outputs targets) e ∙ back-bottom_exit (octagon caller) exit.dims args outputs targets

@@ -155,6 +155,8 @@ pub fn back(
     ensures value { IfOk result (λ r. octagon r ≡ back_value (octagon caller.now) (octagon exit.now) args.now outputs targets.now) }
     ensures rises { count.old ≤ count.new }
 {
+    caller.known();
+    exit.known();
     if caller.partition().is_none() {
         return Ok(DecOct::bottom(caller.dims()));
     }
