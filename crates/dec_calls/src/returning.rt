@@ -9,8 +9,9 @@ ghost use Rattle.interval_form.specs.Listing.{listed};
 ghost use Rattle.spl_core.specs.Facts.{AreDistinct};
 ghost use Rattle.dec_oct.specs.Value.{octagon, octagon_of, whole};
 ghost use Rattle.dec_parts.specs.Lower.{lowered_matrix};
-ghost use Rattle.dec_parts.specs.Moving.{moved_value};
+ghost use Rattle.dec_parts.specs.Moving.{moved_value, MarksAllButTargetsOf};
 ghost use Rattle.dec_calls.specs.Brought.{off_diagonal, standing, ListsRow, AreBrought};
+ghost use Rattle.dec_calls.specs.Marks.{BackMarks};
 
 use dec_oct::DecOct;
 use dec_parts::{lowered, moved};
@@ -123,8 +124,11 @@ fn with_exit(
     requires small { caller.now.dims ≤ 256 }
     requires few { length targets.now ≤ 128 }
     requires not_bottom { IsSome caller.now.blocks }
+    requires targets { All (λ x. x < caller.now.dims) targets.now }
+    requires distinct { AreDistinct targets.now }
     requires placed { All (IsPlaced (caller.now.dims + length targets.now)) bounds.now }
     ensures value { IfOk result (λ r. IfSome caller.now.blocks (λ a. octagon r ≡ moved_value caller.now.dims targets.now (octagon_of (caller.now.dims + length targets.now) (tight (lowered_matrix (caller.now.dims + length targets.now) bounds.now (whole (caller.now.dims + length targets.now) a)))))) }
+    ensures marks { IfOk result (λ r. IfSome caller.now.blocks (λ a. MarksAllButTargetsOf caller.now.dims targets.now (octagon_of (caller.now.dims + length targets.now) (tight (lowered_matrix (caller.now.dims + length targets.now) bounds.now (whole (caller.now.dims + length targets.now) a)))) r.blocks)) }
     ensures rises { count.old ≤ count.new }
 {
     let wide = caller.extended(targets.len() as u32)?;
@@ -153,6 +157,7 @@ pub fn back(
     requires targets { All (λ x. x < caller.now.dims) targets.now }
     requires distinct { AreDistinct targets.now }
     ensures value { IfOk result (λ r. octagon r ≡ back_value (octagon caller.now) (octagon exit.now) args.now outputs targets.now) }
+    ensures marks { IfOk result (λ r. BackMarks (octagon caller.now) (octagon exit.now) args.now outputs targets.now r.blocks) }
     ensures rises { count.old ≤ count.new }
 {
     caller.known();
