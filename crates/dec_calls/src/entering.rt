@@ -15,11 +15,7 @@ use std::alloc::Global;
 fn argument(args: &[u32], v: usize) -> Option<u32>
     ensures { result ≡ argument_of args.now v }
 {
-    if v < args.len() {
-        Some(args[v])
-    } else {
-        None
-    }
+    if v < args.len() { Some(args[v]) } else { None }
 }
 
 // The same of each of the callee's variables.

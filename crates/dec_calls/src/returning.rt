@@ -86,7 +86,8 @@ fn list_row(
     let row = joined_dimension(dims, args, i);
     for j in 0..2 * (args.len() as u32 + outputs) {
         let column = joined_dimension(dims, args, j);
-        list_bound(out, row, column, apart_word(exit, i, j))?;
+        let word = apart_word(exit, i, j);
+        list_bound(out, row, column, word)?;
     }
     Ok(())
 }
