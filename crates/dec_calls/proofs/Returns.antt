@@ -1,5 +1,5 @@
 -- The value after a call.
-use Rattle.std.proofs.Common.{◌≡◌, ℕ, ◌+◌, ◌≤◌, List, length, Option, Some, None, refl, sym, ap, subst, ◌∙◌}
+use Rattle.std.proofs.Common.{◌≡◌, ℕ, ◌+◌, ◌≤◌, List, length, Option, Some, None, refl, ap, subst, ◌∙◌}
 use Rattle.std.specs.Prelude.{IfSome, IsSome}
 use Rattle.oct_def.specs.Tight.{tight}
 use Rattle.oct_def.specs.Octagon.{Octagon, bottom_value}

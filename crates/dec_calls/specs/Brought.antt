@@ -1,5 +1,5 @@
 -- What the exit says of inputs and outputs, as listed bounds.
-use Rattle.std.specs.Prelude.{◌≡◌, ℕ, ◌+◌, ◌*◌, ◌<◌, ◌&&◌, nat_eq, List, None, length, if◌then◌else◌}
+use Rattle.std.specs.Prelude.{◌≡◌, ℕ, ◌+◌, ◌&&◌, nat_eq, List, None, length, if◌then◌else◌}
 use Rattle.std.specs.List.{All}
 use Rattle.oct_def.specs.Bound.{Bound, least}
 use Rattle.oct_def.specs.Table.{Matrix, table, at}
