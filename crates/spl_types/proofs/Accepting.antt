@@ -85,9 +85,6 @@ pub record ProcsSoFar (procs : List ProcMeaning) (p points : ℕ) (cs : List Cop
   pub some : p ≤ 256
   pub stored : copies_in cs ≡ map copies_of (map procedure_of (take p procs))
 
-pub no_procs : (procs : List ProcMeaning) (cs : List Copies) → cs ≡ [] → ProcsSoFar procs 0 0 cs
-no_procs procs cs e = record { kept = refl; met = refl; few = omega arith; some = omega arith; stored = ap copies_in e }
-
 abbrev pub NextProc : List ProcMeaning → ℕ → ℕ → Result Walk CheckFault → Type 0
 NextProc procs p points r = (d : ProcMeaning) → AnswersWith r (named_checks procs (proc_names (take p procs)) points (get_or procs p d)) (λ w. (p < 256) × HasMet (scope_of procs (procedure_of (get_or procs p d))) (met_by_end points (procedure_of (get_or procs p d))) w)
 
