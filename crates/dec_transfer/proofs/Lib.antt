@@ -1,3 +1,5 @@
-pub mod Forgetting
+pub mod Forgotten
 pub mod Lowering
 pub mod Costs
+pub mod Held
+pub mod NewVariable
