@@ -3,3 +3,4 @@ pub mod Lowering
 pub mod Costs
 pub mod Held
 pub mod NewVariable
+pub mod Assigned
