@@ -1,7 +1,10 @@
-pub mod Forgetting
+pub mod Forgotten
 pub mod Lowering
 pub mod Forgotten
 pub mod Restricting
 pub mod Conditions
 pub mod Tested
 pub mod Costs
+pub mod Held
+pub mod NewVariable
+pub mod Assigned

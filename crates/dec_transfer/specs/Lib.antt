@@ -2,3 +2,6 @@ pub mod Listed
 pub mod Cost
 pub mod Forgotten
 pub mod Restricted
+pub mod Formed
+pub mod Closed
+pub mod Marks
