@@ -1,6 +1,5 @@
 pub mod Forgotten
 pub mod Lowering
-pub mod Forgotten
 pub mod Restricting
 pub mod Conditions
 pub mod Tested
