@@ -9,7 +9,7 @@ use Rattle.oct_def.specs.Table.{Matrix}
 use Rattle.oct_def.specs.Tight.{tight}
 use Rattle.oct_def.specs.Octagon.{bottom_value}
 use Rattle.oct_def.proofs.Tables.{length-table}
-use Rattle.spl_core.specs.Expression.{Expression}
+use Rattle.spl_core.specs.Expression.{Expression, Variable}
 use Rattle.spl_core.specs.Facts.{AreDistinct}
 use Rattle.interval_form.specs.declared.constraints.Bounds.TheVariants.{Nothing, Few}
 use Rattle.interval_form.specs.declared.constraints.OctBound.{OctBound}
@@ -17,8 +17,11 @@ use Rattle.interval_form.specs.declared.interval.Interval.{Interval}
 use Rattle.interval_form.specs.Form.{Form, form_value}
 use Rattle.interval_form.specs.FormBounds.{is_above_zero, form_entry, bounded}
 use Rattle.interval_form.specs.Listing.{listed}
-use Rattle.interval_form.specs.Sparse.{Sparse}
+use Rattle.interval_form.specs.Interval.{ranges_of}
+use Rattle.interval_form.specs.Linear.{variable_form, linear_form}
+use Rattle.interval_form.specs.Sparse.{Sparse, form_in}
 use Rattle.interval_form.proofs.Shapes.{form_entry-diagonal}
+use Rattle.interval_form.proofs.Bounding.{length-ranges_of}
 use Rattle.interval_form.proofs.Wider.{length-extended_ranges}
 use Rattle.transfer_def.specs.Assign.{extended_ranges, form_minus_new, new_minus_form, equated, assigned, assign_value}
 use Rattle.transfer_def.specs.Dimensions.{extended_entry, extended, moved}
@@ -145,3 +148,19 @@ pub assigned-few : (v r : Decomposed) (x : ℕ) (s : Sparse) (bounds : List OctB
 assigned-few v r x s bounds old new p kept t c e f =
     let h = is-moved v.dims x e v.blocks bounds old new r p kept.blocks (t e f) c in
     record { value = h.0; count = h.1; marks = h.2 }
+
+-- ---- the whole assignment
+
+pub of-bottom : (v r : Decomposed) (x d : ℕ) (e : Expression) → v.blocks ≡ None → d ≡ v.dims → octagon r ≡ bottom_value d → octagon r ≡ assign_value x e (octagon v)
+unfolding bottom_value assign_value
+of-bottom v r x d e h q w = w ∙ ap bottom_value q ∙ sym (ap (λ o. octagon_of v.dims (option_and_then (assigned v.dims x e) (option_map (whole v.dims) o))) h)
+
+pub held-ranges_of : (v : Decomposed) (ranges : List Interval) → IsSome v.blocks → IfSome v.blocks (λ b. ranges ≡ ranges_of v.dims (whole v.dims b)) → ranges ≡ ranges_of v.dims (whole v.dims (held v))
+held-ranges_of v ranges s h = if-held v.blocks (λ b. ranges ≡ ranges_of v.dims (whole v.dims b)) s h
+
+pub form-of-expression : (n : ℕ) (m : Matrix) (ranges : List Interval) (e : Expression) (s : Sparse) → ranges ≡ ranges_of n m → form_in (length ranges) s ≡ linear_form ranges e → IsFormOf n m e s
+form-of-expression n m ranges e s q h = ap (λ k. form_in k s) (sym (ap length q ∙ length-ranges_of n m)) ∙ h ∙ ap (λ rs. linear_form rs e) q
+
+pub form-of-copy : (n : ℕ) (m : Matrix) (y : ℕ) (s : Sparse) → ((k : ℕ) → form_in k s ≡ variable_form k y) → IsFormOf n m (Variable y) s
+unfolding linear_form
+form-of-copy n m y s h = h n ∙ ap (λ k. variable_form k y) (sym (length-ranges_of n m))
