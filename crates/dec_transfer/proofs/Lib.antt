@@ -4,6 +4,5 @@ pub mod Restricting
 pub mod Conditions
 pub mod Tested
 pub mod Costs
-pub mod Held
 pub mod NewVariable
 pub mod Assigned

@@ -3,6 +3,7 @@ use Rattle.std.proofs.Common.{◌≡◌, ℕ, ◌+◌, ◌<◌, List, [], ◌∷
 use Rattle.std.specs.Prelude.{IsSome, IfSome}
 use Rattle.oct_def.specs.Table.{Matrix}
 use Rattle.interval_form.specs.declared.constraints.Bounds.{Bounds}
+use Rattle.interval_form.specs.declared.constraints.Bounds.TheVariants.{Nothing, Few}
 use Rattle.interval_form.specs.declared.interval.Interval.{Interval}
 use Rattle.interval_form.specs.Interval.{unbounded, ranges_of}
 use Rattle.interval_form.specs.Form.{Form}
@@ -14,7 +15,7 @@ use Rattle.dec_oct.specs.Value.{Decomposed, whole}
 use Rattle.dec_lattice.specs.Over.{held}
 use Rattle.dec_lattice.proofs.Values.{if-held}
 use Rattle.dec_transfer.specs.Listed.{AreBoth}
-use Rattle.dec_transfer.specs.Formed.{IsFormOf, AreBoundsOfNew}
+use Rattle.dec_transfer.specs.Formed.{AreBoundsOfNew, ArePlaced}
 
 -- the ranges with a new variable, of a value that isn't Bottom
 pub held-ranges : (v : Decomposed) (ranges : List Interval) → IsSome v.blocks → IfSome v.blocks (λ b. ranges ≡ ranges_of v.dims (whole v.dims b) ++ unbounded ∷ []) → ranges ≡ ranges_of v.dims (whole v.dims (held v)) ++ unbounded ∷ []
@@ -40,3 +41,10 @@ bounds-of-new n m ranges s t below above b e h v x y both expr f =
     let second : form_in (length ranges) above ≡ difference_form ranges new form = y ∙ new-minus n ranges s t l h v ∙ ap (difference_form ranges new) f in
     subst (λ r. AreBoth r (difference_form r form new) (difference_form r new form) b) e
     (subst (λ g. AreBoth ranges (difference_form ranges form new) g b) second (subst (λ g. AreBoth ranges g (form_in (length ranges) above) b) first both))
+
+both-placed : (ranges : List Interval) (f g : Form) (b : Bounds) → AreBoth ranges f g b → ArePlaced (length ranges) b
+both-placed ranges f g Nothing h = tt
+both-placed ranges f g (Few bounds) h = h.placed
+
+pub placed-new : (v : Decomposed) (ranges : List Interval) (f g : Form) (b : Bounds) → ranges ≡ ranges_of v.dims (whole v.dims (held v)) ++ unbounded ∷ [] → AreBoth ranges f g b → ArePlaced (v.dims + 1) b
+placed-new v ranges f g b e h = subst (λ n. ArePlaced n b) (length-extended_ranges v.dims (whole v.dims (held v)) ranges e) (both-placed ranges f g b h)

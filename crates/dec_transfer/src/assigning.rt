@@ -9,7 +9,7 @@ ghost use Rattle.transfer_def.specs.Assign.{assign_value};
 ghost use Rattle.dec_oct.specs.Value.{octagon, whole};
 ghost use Rattle.dec_lattice.specs.Over.{held};
 ghost use Rattle.dec_transfer.specs.Cost.{AssignCosts};
-ghost use Rattle.dec_transfer.specs.Formed.{IsFormOf, AreBoundsOfNew};
+ghost use Rattle.dec_transfer.specs.Formed.{IsFormOf, AreBoundsOfNew, ArePlaced};
 ghost use Rattle.dec_transfer.specs.Closed.{IsClosedAndMoved};
 ghost use Rattle.dec_transfer.specs.Marks.{AssignMarks, IsAssigned};
 
@@ -28,7 +28,8 @@ fn bounds_of_new(alloc: Global, v: &DecOct, form: &Form) -> Result<Bounds, NoMem
     requires small { v.now.dims ≤ 256 }
     requires not_bottom { IsSome v.now.blocks }
     requires over { IsFormOver v.now.dims form.now }
-    ensures { IfOk result (λ b. AreBoundsOfNew v.now.dims (whole v.now.dims (held v.now)) form.now b) }
+    ensures placed { IfOk result (λ b. ArePlaced (v.now.dims + 1) b) }
+    ensures bounds { IfOk result (λ b. AreBoundsOfNew v.now.dims (whole v.now.dims (held v.now)) form.now b) }
 {
     let ranges = ranges_with_new(alloc, v)?;
     let new = Form::of_variable(alloc, v.dims())?;
