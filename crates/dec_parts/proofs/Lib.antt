@@ -1,7 +1,9 @@
-pub mod Renamed
+pub mod Renaming
 pub mod Numbers
 pub mod Sharing
 pub mod Taken
 pub mod Joined
-pub mod Moved
+pub mod LoweredParts
+pub mod MovedVariables
 pub mod Widened
+pub mod MovedMarks

@@ -1,3 +1,3 @@
 pub mod Forgetting
-pub mod Bounding
+pub mod Lowering
 pub mod Costs
