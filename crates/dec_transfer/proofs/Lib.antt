@@ -4,3 +4,4 @@ pub mod Restricting
 pub mod Conditions
 pub mod Tested
 pub mod Costs
+pub mod Marked

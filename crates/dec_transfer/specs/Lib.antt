@@ -2,3 +2,4 @@ pub mod Listed
 pub mod Cost
 pub mod Forgotten
 pub mod Restricted
+pub mod TestMarks
