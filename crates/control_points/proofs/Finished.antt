@@ -1,5 +1,5 @@
 -- From the graph and the parts that were built to a core.
-use Rattle.std.proofs.Common.{◌≡◌, ℕ, ◌<◌, List, [], ◌∷◌, map, get_or, refl, sym, ap, ◌∙◌, subst, arith}
+use Rattle.std.proofs.Common.{◌≡◌, ℕ, List, [], ◌∷◌, map, get_or, refl, sym, ap, ◌∙◌, subst, arith}
 use Rattle.spl_core.specs.declared.parts.Proc.{Proc}
 use Rattle.spl_core.specs.declared.parts.Edge.{Edge}
 use Rattle.spl_core.specs.declared.parts.Action.{Action}

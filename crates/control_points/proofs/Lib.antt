@@ -7,6 +7,7 @@ pub mod Keeping
 pub mod Storing
 pub mod Moving
 pub mod Counting
+pub mod Lengthening
 pub mod Emitted
 pub mod Adding
 pub mod Owning
@@ -15,6 +16,7 @@ pub mod Fresh
 pub mod Fitting
 pub mod Framing
 pub mod Graphing
+pub mod Bounding
 pub mod Finished
 pub mod Tabling
 pub mod Starting

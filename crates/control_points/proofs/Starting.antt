@@ -9,7 +9,6 @@ use Rattle.spl_tree.specs.Program.{Program, BlockTree}
 use Rattle.spl_types.specs.Dimensions.{targets_in, copied, dimensions_of, dimensions}
 use Rattle.spl_core.specs.declared.parts.Proc.{Proc}
 use Rattle.control_points.specs.Routines.{procedure_at}
-use Rattle.control_points.proofs.Counting.{same_by}
 use Rattle.control_points.proofs.Tabling.{copies_last}
 use Rattle.spl_core.specs.Graph.{Copy, pairs_in, starts}
 use Rattle.control_points.specs.CoreOf.{copy_of, Spoken, spoken_by, Naming, arc, place_in, dimension_in, start_copies, block_arcs, block_fails, points_by, proc_of}
@@ -119,12 +118,6 @@ proc_is p k points inputs outputs dims entry exit a b c d e =
     ∙ (ap (λ v. P (length u.inputs) (length u.outputs) v entry exit) c
     ∙ (ap (λ v. P (length u.inputs) (length u.outputs) (length (dimensions_of u)) v exit) d
     ∙ ap (λ v. P (length u.inputs) (length u.outputs) (length (dimensions_of u)) points v) e)))
-
--- the limit at a procedure's body
-pub body_few : (t : Program) (k n m : ℕ) (body : BlockTree) → points_by n (procedure_at t k) ≤ 4096 → m ≡ n + 1 → body ≡ (procedure_at t k).body → (met_by (met_before m) body).points ≤ 4096
-body_few t k n m body le e f =
-    let u : Procedure = procedure_at t k in
-    omega (arith, le, ap (λ b. (met_by (met_before m) b).points) f, same_by (met_before m) (with_point (met_before n)) u.body e)
 
 pub begin_few : (t : Program) (k n : ℕ) → points_by n (procedure_at t k) ≤ 4096 → n < 4096
 begin_few t k n le = omega (arith, le, two_points n (procedure_at t k))

@@ -2,11 +2,12 @@
 
 ghost use Rattle.std.specs.Prelude.{◌≡◌, ◌≤◌, ◌<◌, ◌+◌, ◌∷◌, ◌++◌, [], length, drop, replicate, IfOk};
 ghost use Rattle.spl_tree.specs.Meaning.{program_of};
+ghost use Rattle.spl_types.specs.Dimensions.{dimensions};
 ghost use Rattle.spl_core.specs.Graph.{starts, graph_of};
 ghost use Rattle.control_points.specs.CoreOf.{arc, points_by, proc_of, fails_of, core_of as core_in};
 ghost use Rattle.control_points.specs.Routines.{procedure_at};
-ghost use Rattle.control_points.specs.Building.{Adds};
-ghost use Rattle.control_points.specs.Emitting.{copies_named, AddsProcedure};
+ghost use Rattle.control_points.specs.Building.{Adds, IsSmall};
+ghost use Rattle.control_points.specs.Emitting.{CallsAreSmall, copies_named, AddsProcedure};
 
 use crate::builder::Builder;
 use crate::built::Built;
@@ -23,7 +24,10 @@ use std::alloc::Global;
 fn emit_start(builder: &mut Builder, dims: &Dimensions, names: &Names) -> Result<(), NoMemory>
     requires declared { length dims.now.declared ≤ length names.now }
     requires few { builder.old.points < 4096 }
-    ensures { IfOk result (λ _. Adds (arc builder.old.points (builder.old.points + 1) (starts (copies_named dims.now (drop (length dims.now.declared) names.now))) ∷ []) [] (builder.old.points + 1) builder.old builder.new) }
+    requires names { length names.now ≤ 128 }
+    requires small { IsSmall builder.old.points builder.old.parts }
+    ensures adds { IfOk result (λ _. Adds (arc builder.old.points (builder.old.points + 1) (starts (copies_named dims.now (drop (length dims.now.declared) names.now))) ∷ []) [] (builder.old.points + 1) builder.old builder.new) }
+    ensures small { IfOk result (λ _. IsSmall builder.new.points builder.new.parts) }
 {
     let entry = builder.points();
     let pairs = builder.push_pairs(dims, names, dims.declarations())?;
@@ -43,8 +47,12 @@ fn emit_procedure<'s>(
     requires there { p ≤ length checked.now.procs }
     requires procs { length procs.now ≤ 256 }
     requires few { points_by builder.old.points (procedure_at (program_of checked.now) p) ≤ 4096 }
+    requires dims { length (dimensions (program_of checked.now) p) ≤ 128 }
+    requires calls { CallsAreSmall (procedure_at (program_of checked.now) p).body }
+    requires small { IsSmall builder.old.points builder.old.parts }
     ensures proc { IfOk result (λ q. q ≡ proc_of builder.old.points (procedure_at (program_of checked.now) p)) }
     ensures adds { IfOk result (λ _. AddsProcedure procs.now (procedure_at (program_of checked.now) p) builder.old builder.new) }
+    ensures small { IfOk result (λ _. IsSmall builder.new.points builder.new.parts) }
 {
     let tree = checked.tree();
     let routine = routine_at(tree, p);

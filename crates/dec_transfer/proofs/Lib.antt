@@ -1,5 +1,8 @@
 pub mod Forgotten
 pub mod Lowering
+pub mod Restricting
+pub mod Conditions
+pub mod Tested
 pub mod Costs
 pub mod NewVariable
 pub mod Assigned

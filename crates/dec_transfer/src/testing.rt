@@ -1,14 +1,18 @@
 // Tests of conditions. A comparison takes the bounds of a difference of forms and closes; the rest goes by the parts of
 // the condition.
 ghost use Rattle.std.specs.Prelude.{◌≡◌, ◌*◌, ◌<◌, ◌≤◌, true, false, IfOk, IfSome, IsSome, length};
+ghost use Rattle.std.specs.List.{All};
+ghost use Rattle.oct_def.specs.Tight.{tight};
 ghost use Rattle.oct_def.specs.Octagon.{Octagon, join_value};
 ghost use Rattle.spl_core.specs.Expression.{Expression, IsOver};
 ghost use Rattle.spl_core.specs.Condition.{IsConditionOver};
 ghost use Rattle.spl_core.specs.Graph.{expr_at, exprs_in, cond_at, conds_in};
 ghost use Rattle.interval_form.specs.Linear.{linear_form, difference_form};
 ghost use Rattle.interval_form.specs.Sparse.{IsFormOver, form_in};
+ghost use Rattle.interval_form.specs.Listed.{IsPlaced};
 ghost use Rattle.transfer_def.specs.Test.{at_most_value, below_value, equal_value, different_value, compare_value, constant_value, test_value};
-ghost use Rattle.dec_oct.specs.Value.{octagon};
+ghost use Rattle.dec_oct.specs.Value.{octagon, octagon_of, whole};
+ghost use Rattle.dec_parts.specs.Lower.{lowered_matrix};
 ghost use Rattle.dec_transfer.specs.Restricted.{restricted_value};
 
 use crate::ranges::ranges_of_all;
@@ -71,7 +75,11 @@ fn closed_with(
     count: &mut RowCount,
 ) -> Result<DecOct, NoMemory>
     requires not_bottom { IsSome v.now.blocks }
+    requires placed { All (IsPlaced v.now.dims) bounds.now }
+    ensures value { IfOk result (λ r. IfSome v.now.blocks (λ b. octagon r ≡ octagon_of v.now.dims (tight (lowered_matrix v.now.dims bounds.now (whole v.now.dims b))))) }
+    ensures rises { count.old ≤ count.new }
 {
+    v.known();
     let parts = lowered(alloc, v, bounds)?;
     let closed = DecOct::tight_of(alloc, parts, count)?;
     Ok(closed)
@@ -91,6 +99,7 @@ fn restricted(
     ensures value { IfOk result (λ r. octagon r ≡ restricted_value ranges.now (form_in (length ranges.now) form.now) (octagon v.now)) }
     ensures rises { count.old ≤ count.new }
 {
+    v.known();
     match form_constraints(alloc, form, ranges)? {
         Bounds::Nothing => Ok(DecOct::bottom(v.dims())),
         Bounds::Few(bounds) => {
