@@ -6,6 +6,7 @@ use Rattle.spl_core.specs.declared.parts.Edge.{Edge}
 use Rattle.spl_core.specs.Parts.{Parts}
 use Rattle.spl_core.specs.Graph.{Arc}
 use Rattle.control_points.specs.declared.built.Fail.{Fail}
+use Rattle.control_points.specs.Nodes.{Stretch}
 use Rattle.control_points.specs.Building.{Building, building, Adds, Lengthens, IsSmall}
 use Rattle.control_points.proofs.Counting.{rises_by}
 
@@ -19,8 +20,8 @@ longer_then e f d g a b c h w = record { edges = omega (arith, h.edges, w.edges)
 pub two_longer : (k : ℕ) (a b c d : Building) → Lengthens 0 (2 * k) a b → Lengthens 0 1 b c → Lengthens 0 1 c d → Lengthens 0 (2 * (k + 1)) a d
 two_longer k a b c d f g h = record { edges = omega (arith, f.edges, g.edges, h.edges); dims = omega (arith, f.dims, g.dims, h.dims) }
 
-pub dims_longer : (n : Parts) (es : List Edge) (ds : List ℕ) (fs : List Fail) (points d : ℕ) → Lengthens 0 1 (building n es ds fs points) (building n es (ds ++ d ∷ []) fs points)
-dims_longer n es ds fs points d = record { edges = omega arith; dims = omega (arith, length-append ds (d ∷ [])) }
+pub dims_longer : (n : Parts) (es : List Edge) (ds : List ℕ) (fs : List Fail) (points d : ℕ) (v : Stretch) → Lengthens 0 1 (building n es ds fs points v) (building n es (ds ++ d ∷ []) fs points v)
+dims_longer n es ds fs points d v = record { edges = omega arith; dims = omega (arith, length-append ds (d ∷ [])) }
 
 pub small_more : (j k : ℕ) (c : Parts) → j ≤ k → IsSmall j c → IsSmall k c
 small_more j k c le h = record { edges = omega (arith, h.edges); dims = omega (arith, h.dims) }

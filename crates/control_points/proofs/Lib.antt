@@ -4,6 +4,7 @@ pub mod Passing
 pub mod Growing
 pub mod Naming
 pub mod Keeping
+pub mod Stretching
 pub mod Storing
 pub mod Moving
 pub mod Counting

@@ -1,11 +1,12 @@
 -- What statements and blocks add to a core that is being built.
 use Rattle.std.specs.Prelude.{◌≡◌, ℕ, ◌+◌, ◌≤◌, List, length, map}
 use Rattle.spl_tree.specs.Program.{StmtTree, skip, halt, fail, assume, assign, call, if_then, if_else, while_do, BlockTree, empty, more}
+use Rattle.spl_tree.specs.Meaning.{exprs_in}
 use Rattle.spl_types.specs.Checks.{Met, met_in, met_by, met_before, with_point, Procedure}
 use Rattle.spl_core.specs.Graph.{Copy}
 use Rattle.control_points.specs.declared.edges.Scope.{Scope}
 use Rattle.control_points.specs.CoreOf.{Spoken, Naming, place_in, dimension_in, stmt_arcs, block_arcs, stmt_fails, block_fails, points_by, procedure_arcs}
-use Rattle.control_points.specs.Building.{Building, Adds}
+use Rattle.control_points.specs.Building.{Building, Adds, CanMake, MakesMore}
 
 -- each call names no more dimensions than a procedure has
 abbrev mutual
@@ -26,6 +27,13 @@ abbrev mutual
 
 abbrev pub naming_in : Scope → Naming
 naming_in s = record { dims = s.source.names.now; procs = s.procs.now }
+
+-- of the expressions that a scope has
+abbrev pub CanMakeIn : Scope → Building → Type 0
+CanMakeIn s b = CanMake s.source.names.now (exprs_in s.source.tree.now) b
+
+abbrev pub MakesMoreIn : Scope → Building → Building → Type 0
+MakesMoreIn s a b = MakesMore s.source.names.now (exprs_in s.source.tree.now) a b
 
 -- whatever targets were met before
 abbrev pub EmitsBlock : Naming → BlockTree → Building → Building → Type 0

@@ -9,13 +9,14 @@ ghost use Rattle.spl_core.specs.Graph.{pairs_in, move_of, graph_of};
 ghost use Rattle.control_points.specs.CoreOf.{arc, dimensions_in};
 ghost use Rattle.control_points.specs.Nodes.{IsMade, Grows};
 ghost use Rattle.spl_core.specs.GraphFacts.{IsGraph, ActionIsIn, SpanIsIn};
-ghost use Rattle.control_points.specs.Building.{Adds, Lengthens, IsSmall, SpansStay, arcs_in};
+ghost use Rattle.control_points.specs.Building.{Adds, Lengthens, IsSmall, HasFew, CanMake, MakesMore, SameNodes, SpansStay, arcs_in};
 ghost use Rattle.control_points.specs.Emitting.{copies_named};
 
 use crate::built::{Built, Fail};
 use crate::making::{Source, translate};
 use crate::names::Dimensions;
 use crate::nodes_made::{Made, Nodes};
+use crate::window::Window;
 use spl_core::{Action, Core, CoreCond, CoreExpr, CoreParts, Edge, Proc, Span, law_graph};
 use spl_tree::{ExprId, NameList};
 use spl_types::nodes::{name, name_count, name_node};
@@ -27,6 +28,7 @@ use std::marker::Model;
 #[derive(Drop)]
 pub struct Builder {
     nodes: Nodes,
+    window: Window,
     none: Made,
     edges: Vec<Edge>,
     dims: Vec<u32>,
@@ -39,9 +41,9 @@ impl Model for Builder {
 
     ghost Value = { Building };
 
-    ghost view = { λ b. building b.nodes b.edges.items b.dims.items b.fails.items b.points };
+    ghost view = { λ b. building b.nodes b.edges.items b.dims.items b.fails.items b.points b.window };
 
-    ghost invariant = { λ b. IsBuilding (building b.nodes b.edges.items b.dims.items b.fails.items b.points).parts b.none };
+    ghost invariant = { λ b. IsBuilding (building b.nodes b.edges.items b.dims.items b.fails.items b.points b.window).parts b.none };
 }
 
 impl Builder {
@@ -52,12 +54,14 @@ impl Builder {
         ensures fails { IfOk result (λ b. b.fails ≡ []) }
         ensures points { IfOk result (λ b. b.points ≡ 0) }
         ensures small { IfOk result (λ b. IsSmall 0 b.parts) }
+        ensures few { IfOk result (λ b. HasFew 0 b.parts) }
     {
         let mut nodes = Nodes::new(alloc);
         let number = nodes.push_expr(CoreExpr::Number(0))?;
         let condition = nodes.push_cond(CoreCond::Random)?;
         Ok(Builder {
             nodes,
+            window: Window::new(alloc),
             none: Made { number, condition },
             edges: Vec::new(alloc),
             dims: Vec::new(alloc),
@@ -78,19 +82,32 @@ impl Builder {
         requires { self.old.points < 2 ^ 31 }
         ensures adds { Adds [] [] (self.old.points + 1) self.old self.new }
         ensures sizes { Lengthens 0 0 self.old self.new }
+        ensures same { SameNodes self.old self.new }
     {
         self.points += 1;
     }
 
+    /// A procedure begins, so nothing is made of its expressions yet.
+    pub fn begin(&mut self)
+        ensures parts { self.new.parts ≡ self.old.parts }
+        ensures fails { self.new.fails ≡ self.old.fails }
+        ensures points { self.new.points ≡ self.old.points }
+        ensures none { self.new.stretch.made ≡ [] }
+    {
+        self.window.begin();
+    }
+
     /// Makes an expression of the tree, as a number and as a condition.
-    pub fn make(&mut self, alloc: Global, source: &Source, root: ExprId) -> Result<Made, NoMemory>
-        requires { root.0 < length source.now.tree.now.exprs }
+    pub fn make(&mut self, source: &Source, root: ExprId) -> Result<Made, NoMemory>
+        requires there { root.0 < length source.now.tree.now.exprs }
+        requires can { CanMake source.now.names.now (trees_in source.now.tree.now) self.old }
         ensures made { IfOk result (λ m. IsMade self.new.parts source.now.names.now (tree_at (trees_in source.now.tree.now) root) m) }
         ensures adds { IfOk result (λ m. Adds [] [] self.old.points self.old self.new) }
         ensures sizes { IfOk result (λ m. Lengthens 0 0 self.old self.new) }
+        ensures makes { IfOk result (λ m. MakesMore source.now.names.now (trees_in source.now.tree.now) self.old self.new) }
     {
         let none = self.none;
-        let made = translate(alloc, source, &mut self.nodes, none, root)?;
+        let made = translate(source, &mut self.nodes, &mut self.window, none, root)?;
         Ok(made)
     }
 
@@ -99,9 +116,8 @@ impl Builder {
         requires acts { ActionIsIn self.old.parts action }
         requires room { length self.old.parts.edges + 1 < most_items }
         ensures adds { IfOk result (λ _. Adds (arc source target (move_of self.old.parts action) ∷ []) [] self.old.points self.old self.new) }
-        ensures exprs { IfOk result (λ _. self.new.parts.exprs ≡ self.old.parts.exprs) }
-        ensures conds { IfOk result (λ _. self.new.parts.conds ≡ self.old.parts.conds) }
         ensures sizes { IfOk result (λ _. Lengthens 1 0 self.old self.new) }
+        ensures same { IfOk result (λ _. SameNodes self.old self.new) }
     {
         let edge = Edge {
             source,
@@ -120,6 +136,7 @@ impl Builder {
         requires { 0 < self.old.points }
         ensures adds { IfOk result (λ _. Adds [] (record { point = self.old.points - 1; offset = offset } ∷ []) self.old.points self.old self.new) }
         ensures sizes { IfOk result (λ _. Lengthens 0 0 self.old self.new) }
+        ensures same { IfOk result (λ _. SameNodes self.old self.new) }
     {
         let fail = Fail {
             point: self.points - 1,
@@ -141,6 +158,7 @@ impl Builder {
         ensures stay { IfOk result (λ s. SpansStay self.old.parts self.new.parts) }
         ensures adds { IfOk result (λ s. Adds [] [] self.old.points self.old self.new) }
         ensures sizes { IfOk result (λ s. Lengthens 0 (length (names_over (named_in source.now.tree.now) list)) self.old self.new) }
+        ensures same { IfOk result (λ s. SameNodes self.old self.new) }
     {
         let first = self.dims.len() as u32;
         let count = name_count(source.tree, list);
@@ -165,6 +183,7 @@ impl Builder {
         ensures stands { IfOk result (λ s. pairs_in (span_dims self.new.parts s) ≡ copies_named dims.now (drop from names.now)) }
         ensures adds { IfOk result (λ s. Adds [] [] self.old.points self.old self.new) }
         ensures sizes { IfOk result (λ s. Lengthens 0 (2 * (length names.now - from)) self.old self.new) }
+        ensures same { IfOk result (λ s. SameNodes self.old self.new) }
     {
         let first = self.dims.len() as u32;
         for k in 0..names.len() - from {
@@ -184,6 +203,7 @@ impl Builder {
     {
         let Builder {
             nodes,
+            window: _,
             none: _,
             edges,
             dims,
@@ -209,6 +229,7 @@ impl Builder {
         ensures pushed { IfOk result (λ _. self.new.parts.dims ≡ self.old.parts.dims ++ dim ∷ []) }
         ensures adds { IfOk result (λ _. Adds [] [] self.old.points self.old self.new) }
         ensures sizes { IfOk result (λ _. Lengthens 0 1 self.old self.new) }
+        ensures same { IfOk result (λ _. SameNodes self.old self.new) }
     {
         match self.dims.push(dim) {
             Ok(()) => {}

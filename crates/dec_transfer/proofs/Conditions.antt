@@ -1,12 +1,10 @@
 -- Tests by the forms of differences, and by the parts of a condition.
-use Rattle.std.proofs.Common.{◌≡◌, ℕ, ◌*◌, ◌<◌, List, length, get_or, Bool, true, false, not, Option, Some, None, pos, negsuc, refl, sym, ap, subst, ◌∙◌}
+use Rattle.std.proofs.Common.{◌≡◌, ℕ, ◌<◌, List, length, get_or, Bool, true, false, not, Option, pos, negsuc, refl, sym, ap, subst, ◌∙◌}
 use Rattle.std.specs.Option.{option_and_then}
 use Rattle.oct_def.specs.Table.{Matrix}
-use Rattle.oct_def.specs.Matrix.{IsEvenMatrix}
 use Rattle.oct_def.specs.Tight.{tight}
-use Rattle.oct_def.specs.Octagon.{Octagon, IsValueOver, bottom_value, join_value}
+use Rattle.oct_def.specs.Octagon.{Octagon, join_value}
 use Rattle.spl_core.specs.declared.parts.Cmp.{Cmp}
-use Rattle.spl_core.specs.declared.parts.Cmp.TheVariants as cmp
 use Rattle.spl_core.specs.declared.parts.CoreCond.{CoreCond}
 use Rattle.spl_core.specs.Parts.{Parts}
 use Rattle.spl_core.specs.Facts.{CondFits, IsCore}
@@ -23,7 +21,7 @@ use Rattle.interval_form.proofs.Forms.{coefficient-form_of, constant-form_of}
 use Rattle.interval_form.proofs.Dense.{same_form}
 use Rattle.interval_form.proofs.Bounding.{length-ranges_of}
 use Rattle.transfer_def.specs.Test.{difference_in, difference_and_one, restricted, restrict_at_most, restrict_below, at_most_value, below_value, equal_value, different_value, compare_value, constant_value, test_value}
-use Rattle.transfer_def.proofs.Tests.{dims-test_value, value-test_value}
+use Rattle.transfer_def.proofs.Tests.{dims-test_value}
 
 -- ---- forms
 

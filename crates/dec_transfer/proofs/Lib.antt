@@ -6,3 +6,4 @@ pub mod Tested
 pub mod Costs
 pub mod NewVariable
 pub mod Assigned
+pub mod Marked

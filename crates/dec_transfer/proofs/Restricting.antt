@@ -1,19 +1,18 @@
 -- A value where a form is at most 0.
-use Rattle.std.proofs.Common.{◌≡◌, ℕ, ◌*◌, List, length, Option, Some, None, true, refl, sym, ap, ◌∙◌, subst}
+use Rattle.std.proofs.Common.{◌≡◌, ℕ, ◌*◌, List, length, Option, Some, None, true, refl, sym, ap, ◌∙◌}
 use Rattle.std.specs.Prelude.{IfSome, IsSome}
 use Rattle.std.specs.Option.{option_and_then}
-use Rattle.oct_def.specs.Table.{Matrix}
 use Rattle.oct_def.specs.Tight.{tight}
-use Rattle.oct_def.specs.Octagon.{Octagon, bottom_value}
+use Rattle.oct_def.specs.Octagon.{bottom_value}
 use Rattle.interval_form.specs.declared.constraints.OctBound.{OctBound}
 use Rattle.interval_form.specs.declared.interval.Interval.{Interval}
 use Rattle.interval_form.specs.Form.{Form, form_value}
-use Rattle.interval_form.specs.FormBounds.{is_above_zero, bounded}
+use Rattle.interval_form.specs.FormBounds.{is_above_zero}
 use Rattle.interval_form.specs.Listed.{Lists}
 use Rattle.block_laws.proofs.Assembly.{length-assembly}
-use Rattle.dec_oct.specs.Value.{Blocks, blocks_of, whole, Decomposed, decomposed, octagon, octagon_of}
+use Rattle.dec_oct.specs.Value.{Blocks, whole, Decomposed, decomposed, octagon, octagon_of}
 use Rattle.dec_parts.specs.Lower.{lowered_matrix, IsLowered}
-use Rattle.dec_transfer.specs.Restricted.{restricted_by, restricted_value}
+use Rattle.dec_transfer.specs.Restricted.{restricted_value}
 use Rattle.dec_transfer.proofs.Lowering.{bounded-lowered, bounded-impossible}
 
 -- the tight closure of parts that took bounds

@@ -9,7 +9,7 @@ use Rattle.interval_form.specs.Interval.{point, ranges_of}
 use Rattle.interval_form.specs.Form.{Form}
 use Rattle.interval_form.specs.Linear.{constant_form, linear_form, difference_form}
 use Rattle.interval_form.proofs.Bounding.{length-ranges_of}
-use Rattle.transfer_def.specs.Test.{restrict_at_most, restrict_below, at_most_value, below_value, test_value}
+use Rattle.transfer_def.specs.Test.{at_most_value, below_value, test_value}
 use Rattle.transfer_def.proofs.Tests.{dims-test_value}
 use Rattle.dec_oct.specs.Value.{Blocks, whole, Decomposed, decomposed, octagon, octagon_of}
 use Rattle.dec_transfer.specs.Restricted.{restricted_by, restricted_value}

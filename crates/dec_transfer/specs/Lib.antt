@@ -5,3 +5,4 @@ pub mod Restricted
 pub mod Formed
 pub mod Closed
 pub mod Marks
+pub mod TestMarks
