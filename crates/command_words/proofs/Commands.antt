@@ -5,6 +5,8 @@ use Rattle.std.proofs.lemmas.Slice.Eq.{bytes_eq-Decides}
 use Rattle.command_words.specs.Texts.{AreText, Text}
 use Rattle.command_words.specs.Items.{Given, given_of}
 use Rattle.command_words.specs.Number.{program_of}
+use Rattle.command_words.specs.Domains.{domain_or}
+use Rattle.command_words.specs.declared.domain_name.DomainName.{DomainName}
 use Rattle.command_words.specs.Command.{Bench, Replay, analyse_of, analyse_with, asked_of, asked_of_texts, bench_of, is_file_word, replay_of, rounds_or}
 use Rattle.command_words.proofs.TextWords.{is-text, not-text}
 
@@ -57,10 +59,10 @@ pub analyse-none : (words : List Text) → given_of words ≡ None → None ≡ 
 unfolding analyse_of
 analyse-none words none = rw none refl
 
-pub analyse-is : (words : List Text) (given : Given) (delay descend : Option ℕ) → given_of words ≡ Some given → delay ≡ rounds_or 1 given.delay → descend ≡ rounds_or 2 given.descend
-    → analyse_with given delay descend ≡ analyse_of words
+pub analyse-is : (words : List Text) (given : Given) (delay descend : Option ℕ) (domain : Option DomainName) → given_of words ≡ Some given → delay ≡ rounds_or 1 given.delay → descend ≡ rounds_or 2 given.descend
+    → domain ≡ domain_or given.domain → analyse_with given delay descend domain ≡ analyse_of words
 unfolding analyse_of
-analyse-is words given delay descend is d e = rw (is, d, e) refl
+analyse-is words given delay descend domain is d e f = rw (is, d, e, f) refl
 
 -- ---- any command
 

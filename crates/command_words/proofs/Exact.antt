@@ -7,7 +7,7 @@ use Rattle.clap.specs.Simple.{matches_of}
 use Rattle.clap.specs.Kinds.{Kinds, or_else}
 use Rattle.clap.specs.Walk.{Held, Row, Waiting, Walk, idle, option, finished, nothing_held, rows_after, walk_from, walked, reacted, settled, used}
 use Rattle.clap.specs.Faults.{fault_of, settle_fault, turn_fault, use_fault}
-use Rattle.command_words.specs.Items.{Form, Item, Kind, are_new, delay, descend, ends, file, form_of, full, is_flag, has, item, items_of, name_of, named, option_named, plain, read_named, read_option, read_word, same, unknown, with_item}
+use Rattle.command_words.specs.Items.{Form, Item, Kind, are_new, delay, descend, domain, ends, file, form_of, full, is_flag, has, item, items_of, name_of, named, option_named, plain, read_named, read_option, read_word, same, unknown, with_item}
 use Rattle.command_words.specs.Texts.{AreText, Text}
 use Rattle.command_words.specs.Cli.{cli}
 use Rattle.command_words.proofs.Shape.{level-is, matches-are, rules, rule, shape}
@@ -157,16 +157,17 @@ pub record Reads (words : List Text) : Type 0 where
       → outcome (walk_at (awaits (rows done) k) (option (name_of k)) p false) words ≡ call done (items_of words (Some k))
 
 never-file : (name : Text) (k : Kind) → option_named name ≡ Some k → same k file ≡ false
-never-file name k e = go (bytes_eq (name_of delay) name) (bytes_eq (name_of descend) name) (bytes_eq (name_of full) name) e
+never-file name k e = go (bytes_eq (name_of delay) name) (bytes_eq (name_of descend) name) (bytes_eq (name_of full) name) (bytes_eq (name_of domain) name) e
   where
     is : (j : Kind) → same j file ≡ false → Some j ≡ Some k → same k file ≡ false
     is j other e = let d : j ≡ k = cc in subst (λ x. same x file ≡ false) d other
 
-    go : (a b c : Bool) → cond a (Some delay) (cond b (Some descend) (cond c (Some full) None)) ≡ Some k → same k file ≡ false
-    go true b c e = is delay refl e
-    go false true c e = is descend refl e
-    go false false true e = is full refl e
-    go false false false e = absurd (cc)
+    go : (a b c d : Bool) → cond a (Some delay) (cond b (Some descend) (cond c (Some full) (cond d (Some domain) None))) ≡ Some k → same k file ≡ false
+    go true b c d e = is delay refl e
+    go false true c d e = is descend refl e
+    go false false true d e = is full refl e
+    go false false false true e = is domain refl e
+    go false false false false e = absurd (cc)
 
 and-as : (a b c d : Bool) → a ≡ c → (c ≡ true → b ≡ d) → (a && b) ≡ (c && d)
 and-as true b true d e f = f refl

@@ -12,7 +12,7 @@ use Rattle.clap.specs.Faults.{check_fault, default_fault, defaults_fault, settle
 use Rattle.clap.specs.declared.builder.value_parser.Reading.TheVariants as reading
 use Rattle.clap.specs.declared.parser.matches.ValueSource.TheVariants.{DefaultValue}
 use Rattle.command_words.specs.Texts.{Text}
-use Rattle.command_words.specs.Items.{Item, Kind, are_new, delay, descend, full, file, is_flag, has, item, name_of, same}
+use Rattle.command_words.specs.Items.{Item, Kind, are_new, delay, descend, full, domain, file, is_flag, has, item, name_of, same}
 use Rattle.command_words.proofs.Shape.{at-new, by-id, empty-use, flag-row, flag-use, repeated, row_of, rule, rules, shape, valued-row, valued-use}
 use Rattle.command_words.proofs.Turns.{awaits, end_fault, is_nil, nil-or}
 
@@ -129,6 +129,7 @@ unfolding rule
 default-none delay all = no-matter (has_row (name_of delay) all) _
 default-none descend all = no-matter (has_row (name_of descend) all) _
 default-none full all = nothing (has_row (name_of full) all)
+default-none domain all = no-matter (has_row (name_of domain) all) _
 default-none file all = no-matter (has_row (name_of file) all) _
 
 defaults-none : (kinds : List Kind) (all : List Row) → defaults_fault all (map rule kinds) ≡ []
@@ -138,7 +139,7 @@ defaults-none (k ∷ ks) all = ap₂ or_else (default-none k all) (defaults-none
 
 pub no-default-fault : (all : List Row) → defaults_fault all rules ≡ []
 unfolding rules
-no-default-fault all = defaults-none (delay ∷ descend ∷ full ∷ file ∷ []) all
+no-default-fault all = defaults-none (delay ∷ descend ∷ full ∷ domain ∷ file ∷ []) all
 
 either : {X : Type 0} (b : Bool) (x : X) → cond b x x ≡ x
 either true x = refl
@@ -149,6 +150,7 @@ unfolding rule
 keeps delay all v = either (has_row (name_of delay) all) all
 keeps descend all v = either (has_row (name_of descend) all) all
 keeps full all v = absurd (true≢false v)
+keeps domain all v = either (has_row (name_of domain) all) all
 keeps file all v = either (has_row (name_of file) all) all
 
 or-false : (b : Bool) → (b || false) ≡ b
@@ -170,13 +172,14 @@ unfolding rule
 with-flag full all items v same_test = add-default full all items same_test
 with-flag delay all items v same_test = absurd (true≢false (sym v))
 with-flag descend all items v same_test = absurd (true≢false (sym v))
+with-flag domain all items v same_test = absurd (true≢false (sym v))
 with-flag file all items v same_test = absurd (true≢false (sym v))
 
 pub finished-is : (items : List Item) → fold with_default (rows items) rules ≡ defaulted items
 unfolding rules
 finished-is items =
     let all = rows items in
-    rw (keeps delay all refl, keeps descend all refl, with-flag full all items refl (has-rows full items), keeps file (all ++ lacks full items) refl) refl
+    rw (keeps delay all refl, keeps descend all refl, with-flag full all items refl (has-rows full items), keeps domain (all ++ lacks full items) refl, keeps file (all ++ lacks full items) refl) refl
 
 pub check-is : (all : List Row) → is_nil (check_fault shape all false) ≡ is_given (codes "file") all
 unfolding rules rule

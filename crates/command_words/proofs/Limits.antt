@@ -6,7 +6,9 @@ use Rattle.std.specs.Str.{all_ascii_digits, bytes_eq, is_utf8}
 use Rattle.std.specs.Str.Parse.{digits_value}
 use Rattle.command_words.specs.Texts.{Text}
 use Rattle.command_words.specs.Items.{Given, given_of}
-use Rattle.command_words.specs.Number.{number_of, program_of, rounds_of}
+use Rattle.command_words.specs.Number.{number_of, program_of}
+use Rattle.command_words.specs.Domains.{domain_or}
+use Rattle.command_words.specs.declared.domain_name.DomainName.{DomainName}
 use Rattle.command_words.specs.Command.{Asked, Analyse, Bench, Replay, analyse_given, analyse_of, analyse_with, asked_of, asked_of_texts, bench_of, is_file_word, replay_of, rounds_or}
 use Rattle.command_words.specs.Laws.{IsWithinLimits}
 
@@ -31,13 +33,14 @@ rounds-small : (default : ℕ) (word : Option Text) (n : ℕ) → default ≤ 10
 rounds-small default None n small is = let same : default ≡ n = cc is in subst (λ x. x ≤ 1000) same small
 rounds-small default (Some word) n small is = (within 4 0 1000 word n is).1
 
-analysed : (given : Given) (delay descend : Option ℕ) (asked : Asked) → ((n : ℕ) → delay ≡ Some n → n ≤ 1000) → ((n : ℕ) → descend ≡ Some n → n ≤ 1000)
-    → analyse_with given delay descend ≡ Some asked → IsWithinLimits asked
-analysed given (Some m) (Some n) asked first second is =
-    let same : Analyse m n given.full given.file ≡ asked = cc is in
+analysed : (given : Given) (delay descend : Option ℕ) (domain : Option DomainName) (asked : Asked) → ((n : ℕ) → delay ≡ Some n → n ≤ 1000) → ((n : ℕ) → descend ≡ Some n → n ≤ 1000)
+    → analyse_with given delay descend domain ≡ Some asked → IsWithinLimits asked
+analysed given (Some m) (Some n) (Some d) asked first second is =
+    let same : Analyse m n given.full d given.file ≡ asked = cc is in
     subst IsWithinLimits same (first m refl, second n refl)
-analysed given (Some m) None asked first second is = absurd (cc is)
-analysed given None descend asked first second is = absurd (cc is)
+analysed given (Some m) (Some n) None asked first second is = absurd (cc is)
+analysed given (Some m) None domain asked first second is = absurd (cc is)
+analysed given None descend domain asked first second is = absurd (cc is)
 
 of-analysis : (words : List Text) (asked : Asked) → analyse_of words ≡ Some asked → IsWithinLimits asked
 unfolding analyse_of
@@ -46,7 +49,7 @@ of-analysis words asked is = by (given_of words) is
     by : (o : Option Given) → option_and_then analyse_given o ≡ Some asked → IsWithinLimits asked
     by None is = absurd (cc is)
     by (Some given) is =
-        analysed given (rounds_or 1 given.delay) (rounds_or 2 given.descend) asked
+        analysed given (rounds_or 1 given.delay) (rounds_or 2 given.descend) (domain_or given.domain) asked
         (λ n e. rounds-small 1 given.delay n (omega arith) e) (λ n e. rounds-small 2 given.descend n (omega arith) e) is
 
 of-bench : (words : List Text) (asked : Asked) → bench_of words ≡ Some asked → IsWithinLimits asked

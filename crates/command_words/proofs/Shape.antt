@@ -10,7 +10,7 @@ use Rattle.clap.specs.declared.builder.value_parser.Reading.TheVariants as readi
 use Rattle.clap.specs.declared.parser.matches.ValueSource.TheVariants.{CommandLine}
 use Rattle.clap.proofs.FaultLemmas.{leaf_fault}
 use Rattle.command_words.specs.Texts.{Text}
-use Rattle.command_words.specs.Items.{Kind, delay, descend, full, file, is_flag, name_of, option_named}
+use Rattle.command_words.specs.Items.{Kind, delay, descend, full, domain, file, is_flag, name_of, option_named}
 use Rattle.command_words.specs.Cli.{cli, declared}
 
 unfoldable pub rule : Kind → Rule
@@ -18,7 +18,7 @@ rule file = with_index 1 (filled (declared file))
 rule kind = filled (declared kind)
 
 unfoldable pub rules : List Rule
-rules = map rule (delay ∷ descend ∷ full ∷ file ∷ [])
+rules = map rule (delay ∷ descend ∷ full ∷ domain ∷ file ∷ [])
 
 abbrev pub shape : Shape
 shape = record (new_shape (codes "interproc")) { rules = rules; no_binary_name = true; disable_help_flag = true; disable_help_subcommand = true; is_built = true }
@@ -47,18 +47,19 @@ matches-are words = ap (λ (b : App). rows_after b.top.rules (names_of b) words)
 
 pub by-long : (name : List ℕ) → arg_by_long rules name ≡ option_map rule (option_named name)
 unfolding rules rule
-by-long name = go (same_as delay) (same_as descend) (same_as full)
+by-long name = go (same_as delay) (same_as descend) (same_as full) (same_as domain)
   where
     same_as : Kind → Bool
     same_as k = bytes_eq (name_of k) name
 
-    go : (a b c : Bool)
-        → cond (a || false) (Some (rule delay)) (cond (b || false) (Some (rule descend)) (cond (c || false) (Some (rule full)) None))
-        ≡ option_map rule (cond a (Some delay) (cond b (Some descend) (cond c (Some full) None)))
-    go true b c = refl
-    go false true c = refl
-    go false false true = refl
-    go false false false = refl
+    go : (a b c d : Bool)
+        → cond (a || false) (Some (rule delay)) (cond (b || false) (Some (rule descend)) (cond (c || false) (Some (rule full)) (cond (d || false) (Some (rule domain)) None)))
+        ≡ option_map rule (cond a (Some delay) (cond b (Some descend) (cond c (Some full) (cond d (Some domain) None))))
+    go true b c d = refl
+    go false true c d = refl
+    go false false true d = refl
+    go false false false true = refl
+    go false false false false = refl
 
 pub by-short : (c : ℕ) → arg_by_short rules c ≡ None
 unfolding rules rule
@@ -69,6 +70,7 @@ unfolding rules rule
 by-id delay = refl
 by-id descend = refl
 by-id full = refl
+by-id domain = refl
 by-id file = refl
 
 pub first-place : arg_by_index rules 1 ≡ Some (rule file)
@@ -84,6 +86,7 @@ unfolding rule
 id-is delay = refl
 id-is descend = refl
 id-is full = refl
+id-is domain = refl
 id-is file = refl
 
 pub takes-is : (k : Kind) → takes_values (rule k) ≡ not (is_flag k)
@@ -91,6 +94,7 @@ unfolding rule
 takes-is delay = refl
 takes-is descend = refl
 takes-is full = refl
+takes-is domain = refl
 takes-is file = refl
 
 pub most-is : (k : Kind) → is_flag k ≡ false → most_values (rule k) ≡ 1
@@ -98,6 +102,7 @@ unfolding rule
 most-is delay e = refl
 most-is descend e = refl
 most-is full e = absurd (true≢false e)
+most-is domain e = refl
 most-is file e = refl
 
 pub file-once : (is_multiple (rule file) ≡ false) × (takes_several (rule file) ≡ false) × ((rule file).trailing_var_arg ≡ false)
@@ -143,6 +148,7 @@ unfolding rule
 valued-use delay text rows e = once (has_row (name_of delay) rows)
 valued-use descend text rows e = once (has_row (name_of descend) rows)
 valued-use full text rows e = absurd (true≢false e)
+valued-use domain text rows e = once (has_row (name_of domain) rows)
 valued-use file text rows e = once (has_row (name_of file) rows)
 
 pub empty-use : (k : Kind) (rows : List Row) → is_flag k ≡ false → use_fault false (rule k) [] rows ≡ kind.InvalidValue ∷ []
@@ -150,6 +156,7 @@ unfolding rule
 empty-use delay rows e = refl
 empty-use descend rows e = refl
 empty-use full rows e = absurd (true≢false e)
+empty-use domain rows e = refl
 empty-use file rows e = refl
 
 pub flag-use : (k : Kind) (rows : List Row) → is_flag k ≡ true → use_fault false (rule k) [] rows ≡ repeated (has_row (name_of k) rows)
@@ -157,6 +164,7 @@ unfolding rule
 flag-use full rows e = once (has_row (name_of full) rows)
 flag-use delay rows e = absurd (true≢false (sym e))
 flag-use descend rows e = absurd (true≢false (sym e))
+flag-use domain rows e = absurd (true≢false (sym e))
 flag-use file rows e = absurd (true≢false (sym e))
 
 pub valued-row : (k : Kind) (text : Text) (rows : List Row) → is_flag k ≡ false → has_row (name_of k) rows ≡ false → used (rule k) (text ∷ []) rows ≡ rows ++ row_of k text ∷ []
@@ -164,6 +172,7 @@ unfolding rule
 valued-row delay text rows e new = set-new (name_of delay) (text ∷ []) rows new
 valued-row descend text rows e new = set-new (name_of descend) (text ∷ []) rows new
 valued-row full text rows e new = absurd (true≢false e)
+valued-row domain text rows e new = set-new (name_of domain) (text ∷ []) rows new
 valued-row file text rows e new = set-new (name_of file) (text ∷ []) rows new
 
 pub flag-row : (k : Kind) (rows : List Row) → is_flag k ≡ true → has_row (name_of k) rows ≡ false → used (rule k) [] rows ≡ rows ++ row_of k (codes "true") ∷ []
@@ -171,4 +180,5 @@ unfolding rule
 flag-row full rows e new = set-new (name_of full) (codes "true" ∷ []) rows new
 flag-row delay rows e new = absurd (true≢false (sym e))
 flag-row descend rows e new = absurd (true≢false (sym e))
+flag-row domain rows e new = absurd (true≢false (sym e))
 flag-row file rows e new = absurd (true≢false (sym e))

@@ -4,7 +4,7 @@ use Rattle.std.specs.List.{before_first, after_first, list_any, position_or_len}
 use Rattle.std.specs.Str.{bytes_eq}
 use Rattle.std.proofs.lemmas.Slice.Eq.{bytes_eq-Decides}
 use Rattle.command_words.specs.Texts.{Text}
-use Rattle.command_words.specs.Items.{Form, Item, Kind, delay, descend, ends, file, form_of, form_of_long, form_of_two, full, is_equals, is_flag, item, items_of, name_of, named, option_named, plain, read_named, read_option, read_word, same, unknown, with_item}
+use Rattle.command_words.specs.Items.{Form, Item, Kind, delay, descend, domain, ends, file, form_of, form_of_long, form_of_two, full, is_equals, is_flag, item, items_of, name_of, named, option_named, plain, read_named, read_option, read_word, same, unknown, with_item}
 use Rattle.command_words.specs.Spelling.{IsPlainWord, Spells, TakesText, apart, file_word, files, flag, joined, nothing}
 
 plain-form : (word : Text) → IsPlainWord word → form_of word ≡ plain
@@ -17,24 +17,28 @@ alone-form : (k : Kind) → form_of (codes "--" ++ name_of k) ≡ named (name_of
 alone-form delay = refl
 alone-form descend = refl
 alone-form full = refl
+alone-form domain = refl
 alone-form file = refl
 
 joined-form : (k : Kind) (text : Text) → form_of (codes "--" ++ (name_of k ++ (codes "=" ++ text))) ≡ named (name_of k) (Some text)
 joined-form delay text = refl
 joined-form descend text = refl
 joined-form full text = refl
+joined-form domain text = refl
 joined-form file text = refl
 
 own-name : (k : Kind) → same k file ≡ false → option_named (name_of k) ≡ Some k
 own-name delay e = refl
 own-name descend e = refl
 own-name full e = refl
+own-name domain e = refl
 own-name file e = absurd (true≢false e)
 
 flag-not-file : (k : Kind) → is_flag k ≡ true → same k file ≡ false
 flag-not-file full e = refl
 flag-not-file delay e = refl
 flag-not-file descend e = refl
+flag-not-file domain e = refl
 flag-not-file file e = absurd (true≢false (sym e))
 
 pub reads-spelled : (words : List Text) (items : List Item) → Spells words items → items_of words None ≡ Some items
@@ -107,7 +111,7 @@ view (x ∷ y ∷ rest) = go (x == 45) (y == 45) refl refl
     go false b e f = rw e (inr (λ at. true≢false (sym (eqb-self x 45 at) ∙ e)))
 
 named-is : (name : Text) (k : Kind) → option_named name ≡ Some k → (name ≡ name_of k) × (same k file ≡ false)
-named-is name k e = go (is_named delay) (is_named descend) (is_named full) refl refl refl e
+named-is name k e = go (is_named delay) (is_named descend) (is_named full) (is_named domain) refl refl refl refl e
   where
     is_named : Kind → Bool
     is_named j = bytes_eq (name_of j) name
@@ -117,12 +121,13 @@ named-is name k e = go (is_named delay) (is_named descend) (is_named full) refl 
         let d : j ≡ k = cc in
         subst (λ x. (name ≡ name_of x) × (same x file ≡ false)) d (sym ((bytes_eq-Decides (name_of j) name).0 e), other)
 
-    go : (a b c : Bool) → is_named delay ≡ a → is_named descend ≡ b → is_named full ≡ c
-        → cond a (Some delay) (cond b (Some descend) (cond c (Some full) None)) ≡ Some k → (name ≡ name_of k) × (same k file ≡ false)
-    go true b c e f g o = is delay refl e o
-    go false true c e f g o = is descend refl f o
-    go false false true e f g o = is full refl g o
-    go false false false e f g o = absurd (cc)
+    go : (a b c d : Bool) → is_named delay ≡ a → is_named descend ≡ b → is_named full ≡ c → is_named domain ≡ d
+        → cond a (Some delay) (cond b (Some descend) (cond c (Some full) (cond d (Some domain) None))) ≡ Some k → (name ≡ name_of k) × (same k file ≡ false)
+    go true b c d e f g h o = is delay refl e o
+    go false true c d e f g h o = is descend refl f o
+    go false false true d e f g h o = is full refl g o
+    go false false false true e f g h o = is domain refl h o
+    go false false false false e f g h o = absurd (cc)
 
 pub record Spelt (words : List Text) : Type 0 where
   pub free : (items : List Item) → items_of words None ≡ Some items → Spells words items

@@ -5,7 +5,7 @@ use Rattle.clap.specs.Kinds.{Kinds, or_else}
 use Rattle.clap.specs.Walk.{Held, Waiting, Walk, Row, idle, option, settled, reacted, subcommand_met, walk_from, walked, finished, nothing_held, is_pending, positional_held, arg_by_index, arg_by_long, to_positional}
 use Rattle.clap.specs.Faults.{check_fault, defaults_fault, level_fault, settle_fault, turn_fault, use_fault, walk_fault, positional_fault, flags_fault}
 use Rattle.command_words.specs.Texts.{Text}
-use Rattle.command_words.specs.Items.{Kind, delay, descend, full, file, is_flag, name_of, option_named}
+use Rattle.command_words.specs.Items.{Kind, delay, descend, full, domain, file, is_flag, name_of, option_named}
 use Rattle.command_words.proofs.Shape.{by-id, by-long, by-short, id-is, rule, rules, shape, takes-is, most-is, file-once, first-place, second-place}
 use Rattle.command_words.proofs.Looks.{IsNamed, IsPlain, IsUnknown, dashes}
 
@@ -167,6 +167,7 @@ same-name : (k : Kind) → bytes_eq (name_of k) (name_of k) ≡ true
 same-name delay = refl
 same-name descend = refl
 same-name full = refl
+same-name domain = refl
 same-name file = refl
 
 pub taken-walk : (word : Text) (rows : List Row) (k : Kind) (position : ℕ) → IsPlain word → is_flag k ≡ false

@@ -5,17 +5,18 @@ use Rattle.std.specs.Str.{bytes_eq}
 use Rattle.std.proofs.lemmas.Slice.Eq.{bytes_eq-Decides}
 use Rattle.clap.specs.Walk.{Row, first_of, one_of, row_text}
 use Rattle.command_words.specs.Texts.{Text}
-use Rattle.command_words.specs.Items.{Item, Kind, delay, descend, file, full, is_flag, has, name_of, same, text_of}
+use Rattle.command_words.specs.Items.{Item, Kind, delay, descend, domain, file, full, is_flag, has, name_of, same, text_of}
 use Rattle.command_words.proofs.Given.{default_row, defaulted, defaults, valued-shown, row, rows, shown}
 
 -- a name is one kind's alone
 abbrev kinds : List Kind
-kinds = delay ∷ descend ∷ full ∷ file ∷ []
+kinds = delay ∷ descend ∷ full ∷ domain ∷ file ∷ []
 
 back : (k : Kind) → find (λ j. bytes_eq (name_of j) (name_of k)) kinds ≡ Some k
 back delay = refl
 back descend = refl
 back full = refl
+back domain = refl
 back file = refl
 
 pub same-is : (a b : Kind) → same a b ≡ true → a ≡ b

@@ -4,27 +4,30 @@ use Rattle.std.specs.List.{list_all}
 use Rattle.std.specs.Str.{bytes_eq, is_utf8}
 use Rattle.command_words.specs.Texts.{Text}
 use Rattle.command_words.specs.Items.{Given, given_of}
+use Rattle.command_words.specs.Domains.{domain_or}
+use Rattle.command_words.specs.declared.domain_name.DomainName.{DomainName}
 use Rattle.command_words.specs.Number.{program_of, rounds_of}
 
 pub data Asked : Type 0 where
-  Analyse : (delay descend : ℕ) → (full : Bool) → (file : Text) → Asked
+  Analyse : (delay descend : ℕ) → (full : Bool) → (domain : DomainName) → (file : Text) → Asked
   Bench : (number : ℕ) → Asked
   Replay : (file choices : Text) → Asked
 
--- ---- [--delay N] [--descend N] [--full] FILE
+-- ---- [--delay N] [--descend N] [--full] [--domain dec|full] FILE
 
 -- an option's number, or its default where it isn't given
 abbrev pub rounds_or : ℕ → Option Text → Option ℕ
 rounds_or default None = Some default
 rounds_or default (Some word) = rounds_of word
 
-abbrev pub analyse_with : Given → Option ℕ → Option ℕ → Option Asked
-analyse_with given (Some delay) (Some descend) = Some (Analyse delay descend given.full given.file)
-analyse_with given (Some delay) None = None
-analyse_with given None descend = None
+abbrev pub analyse_with : Given → Option ℕ → Option ℕ → Option DomainName → Option Asked
+analyse_with given (Some delay) (Some descend) (Some domain) = Some (Analyse delay descend given.full domain given.file)
+analyse_with given (Some delay) (Some descend) None = None
+analyse_with given (Some delay) None domain = None
+analyse_with given None descend domain = None
 
 abbrev pub analyse_given : Given → Option Asked
-analyse_given given = analyse_with given (rounds_or 1 given.delay) (rounds_or 2 given.descend)
+analyse_given given = analyse_with given (rounds_or 1 given.delay) (rounds_or 2 given.descend) (domain_or given.domain)
 
 unfoldable pub analyse_of : List Text → Option Asked
 analyse_of words = option_and_then analyse_given (given_of words)

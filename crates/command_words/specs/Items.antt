@@ -9,6 +9,7 @@ pub data Kind : Type 0 where
   delay : Kind
   descend : Kind
   full : Kind
+  domain : Kind
   file : Kind
 
 -- an option's name, and FILE's among the values
@@ -16,10 +17,11 @@ abbrev pub name_of : Kind → Text
 name_of delay = codes "delay"
 name_of descend = codes "descend"
 name_of full = codes "full"
+name_of domain = codes "domain"
 name_of file = codes "file"
 
 abbrev pub options : List Kind
-options = delay ∷ descend ∷ full ∷ []
+options = delay ∷ descend ∷ full ∷ domain ∷ []
 
 -- an option that takes no value
 abbrev pub is_flag : Kind → Bool
@@ -113,6 +115,7 @@ pub record Given : Type 0 where
   pub delay : Option Text
   pub descend : Option Text
   pub full : Bool
+  pub domain : Option Text
   pub file : Text
 
 -- each item comes at most once, and FILE does
@@ -122,6 +125,7 @@ given_of_items items = if are_new [] items
       delay = text_of delay items;
       descend = text_of descend items;
       full = has full items;
+      domain = text_of domain items;
       file = name;
     }) (text_of file items) else None
 

@@ -11,7 +11,7 @@ ReadsWhatIsSpelled = (words : List Text) (items : List Item) → Spells words it
 
 -- numbers that are asked for lie within their limits
 abbrev pub IsWithinLimits : Asked → Type 0
-IsWithinLimits (Analyse delay descend full file) = (delay ≤ 1000) × (descend ≤ 1000)
+IsWithinLimits (Analyse delay descend full domain file) = (delay ≤ 1000) × (descend ≤ 1000)
 IsWithinLimits (Bench number) = (1 ≤ number) × (number ≤ 42)
 IsWithinLimits (Replay file choices) = Unit {0}
 

@@ -2,6 +2,7 @@ pub mod Texts
 pub mod Items
 pub mod Spelling
 pub mod Number
+pub mod Domains
 pub mod Command
 pub mod Cli
 pub mod View

@@ -16,12 +16,13 @@ given_view g = record {
   delay = option_map (λ s. s.now) g.delay;
   descend = option_map (λ s. s.now) g.descend;
   full = g.full;
+  domain = option_map (λ s. s.now) g.domain;
   file = g.file.now;
 }
 
 -- what a command of the code asks for
 abbrev pub asked_by : Command → Asked
-asked_by (Analyse delay descend full file) = asked.Analyse delay descend full (string_bytes file)
+asked_by (Analyse delay descend full domain file) = asked.Analyse delay descend full domain (string_bytes file)
 asked_by (Bench number) = asked.Bench number
 asked_by (Replay file choices) = asked.Replay (string_bytes file) (string_bytes choices)
 

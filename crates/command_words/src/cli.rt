@@ -18,6 +18,7 @@ pub struct GivenWords<'a> {
     pub delay: Option<&'a str>,
     pub descend: Option<&'a str>,
     pub full: bool,
+    pub domain: Option<&'a str>,
     pub file: &'a str,
 }
 
@@ -45,6 +46,7 @@ pub fn given_words<'a>(
             delay: matches.get_str("delay"),
             descend: matches.get_str("descend"),
             full: matches.get_flag("full"),
+            domain: matches.get_str("domain"),
             file,
         })),
     }
@@ -60,7 +62,8 @@ fn parser<'a>(alloc: Global) -> Result<Command<'a>, AllocError>
     let delay = plain.arg(valued(alloc, "delay"))?;
     let descend = delay.arg(valued(alloc, "descend"))?;
     let full = descend.arg(flag(alloc, "full"))?;
-    let whole = full.arg(file_word(alloc))?;
+    let domain = full.arg(valued(alloc, "domain"))?;
+    let whole = domain.arg(file_word(alloc))?;
     Ok(whole)
 }
 

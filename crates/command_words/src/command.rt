@@ -6,6 +6,7 @@ ghost use Rattle.command_words.specs.View.{Reads, asked_by};
 ghost use Rattle.command_words.specs.declared.command.WordsFault.TheVariants.{NoMemory};
 
 use crate::cli::given_words;
+use crate::domain_name::{DomainName, domain_given};
 use crate::number::{program, rounds};
 use crate::texts::as_texts;
 use memory::NoMemory;
@@ -15,11 +16,13 @@ use thiserror::Error;
 /// What a command line asks for.
 #[derive(Debug, Drop, PartialEq, Eq)]
 pub enum Command {
-    /// The analysis of a program and its report. A cut point joins `delay` times before it widens; `descend` rounds narrow.
+    /// The analysis of a program in a domain and its report. A cut point joins `delay` times before it widens; `descend`
+    /// rounds narrow.
     Analyse {
         delay: u32,
         descend: u32,
         full: bool,
+        domain: DomainName,
         file: String,
     },
     /// The analysis of a generated program, and its figures.
@@ -92,10 +95,14 @@ fn analyse(alloc: Global, words: &[&str]) -> Result<Option<Command>, NoMemory>
     let Some(descend) = rounds_given(given.descend, 2) else {
         return Ok(None);
     };
+    let Some(domain) = domain_given(given.domain) else {
+        return Ok(None);
+    };
     Ok(Some(Command::Analyse {
         delay,
         descend,
         full: given.full,
+        domain,
         file: String::from_str(alloc, given.file)?,
     }))
 }

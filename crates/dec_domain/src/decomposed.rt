@@ -11,16 +11,27 @@ use minplus_lanes::RowCount;
 use oct_def::NoMemory;
 use spl_core::Core;
 use std::alloc::Global;
+use std::marker::Model;
 
-/// The domain, with the count of the rows that its closings relaxed.
+/// The domain, which is seen as the count of the rows that its closings relaxed.
 #[derive(Drop)]
 pub struct DecDomain {
     count: RowCount,
 }
 
+impl Model for DecDomain {
+    ghost use Rattle.std.specs.Prelude.{ℕ};
+
+    ghost Value = { ℕ };
+
+    ghost view = { λ d. d.count };
+}
+
 impl DecDomain {
     /// The domain before any closing. It takes no memory.
-    pub fn new() -> DecDomain {
+    pub fn new() -> DecDomain
+        ensures { result ≡ 0 }
+    {
         DecDomain {
             count: RowCount::new(),
         }
@@ -28,7 +39,7 @@ impl DecDomain {
 
     /// How many rows were relaxed so far, or the greatest `u64`.
     pub fn rows(&self) -> u64
-        ensures { result ≡ self.now.count }
+        ensures { result ≡ self.now }
     {
         self.count.rows()
     }
@@ -39,7 +50,7 @@ impl Domain for DecDomain {
 
     ghost meaning = { λ v. v };
 
-    ghost work = { λ d. d.count };
+    ghost work = { λ d. d };
 
     fn known(&self, v: &DecValue) {
         let _ = &v.blocks;

@@ -23,18 +23,6 @@ impl Model for DecValue {
     ghost invariant = { λ v. IsKept (octagon v.blocks) };
 }
 
-impl DecValue {
-    /// The number of blocks; 0 for Bottom.
-    pub fn blocks(&self) -> u32 {
-        self.blocks.blocks()
-    }
-
-    /// The greatest number of members of a block; 0 for Bottom and where there is none.
-    pub fn largest(&self) -> u32 {
-        self.blocks.largest()
-    }
-}
-
 /// The value of blocks.
 pub(crate) fn kept(blocks: DecOct) -> DecValue
     requires small { blocks.dims ≤ 256 }

@@ -1,12 +1,12 @@
 -- Blocks that listed bounds join keep apart what no bound joins, and are the components of the matrix that takes the bounds.
-use Rattle.std.proofs.Common.{◌≡◌, ℕ, ◌+◌, ◌*◌, ◌/◌, ◌<◌, ◌≤◌, ◌⊎◌, inl, inr, Bool, true, false, List, [], ◌∷◌, length, get_or, Some, None, refl, sym, ap, ◌∙◌, subst, arith, zero, suc}
-use Rattle.std.specs.Prelude.{◌↔◌, pos}
+use Rattle.std.proofs.Common.{◌≡◌, ℕ, ◌+◌, ◌*◌, ◌/◌, ◌<◌, ◌≤◌, ◌⊎◌, inl, inr, Bool, true, false, List, [], ◌∷◌, length, Some, None, refl, sym, ap, ◌∙◌, subst, arith, zero, suc}
+use Rattle.std.specs.Prelude.{pos}
 use Rattle.std.specs.List.{All}
-use Rattle.std.proofs.lemmas.Bool.{cases_eq, cases_Bool, cases_lt}
+use Rattle.std.proofs.lemmas.Bool.{cases_eq, cases_Bool, cond-false}
 use Rattle.std.proofs.lemmas.Int.{ints}
 use Rattle.oct_def.specs.Bound.{Bound, InRange, least, bound_of}
-use Rattle.oct_def.specs.Table.{Matrix, table, at}
-use Rattle.oct_def.specs.Matrix.{opposite, IsSquare, IsCoherent, IsEvenMatrix}
+use Rattle.oct_def.specs.Table.{Matrix, at}
+use Rattle.oct_def.specs.Matrix.{opposite, IsCoherent, IsEvenMatrix}
 use Rattle.oct_def.specs.Octagon.{top_entry}
 use Rattle.oct_def.proofs.Orders.{least_none, least_comm}
 use Rattle.oct_def.proofs.Tables.{length-table, at-table, square-table}
@@ -17,21 +17,20 @@ use Rattle.oct_def.proofs.WordBounds.{bound_of-other}
 use Rattle.interval_form.specs.declared.constraints.OctBound.{OctBound}
 use Rattle.interval_form.specs.Listed.{IsPlaced}
 use Rattle.interval_form.specs.Listing.{is_at, listed}
-use Rattle.block_partition.specs.Partition.{member, block, home, SameBlock, IsIn, IsBlock, IsPartition}
+use Rattle.block_partition.specs.Partition.{member, block, home, SameBlock, IsPartition}
 use Rattle.block_partition.specs.Changes.{IsNear, IsMergedBy}
 use Rattle.block_laws.specs.Assembly.{is_joint, matrix, assembly, IsSeparated}
 use Rattle.block_laws.specs.Components.{Joins, Linked, One, More, IsComponents}
-use Rattle.block_laws.proofs.Assembly.{joint-from, joint-not, joint-gives, length-assembly, separated-assembly}
+use Rattle.block_laws.proofs.Assembly.{joint-from, joint-not, separated-assembly}
 use Rattle.block_laws.proofs.Components.{linked-same, same_block-sym}
 use Rattle.dec_oct.specs.Value.{Blocks, blocks_of, whole, IsDecomposition, IsSettled}
-use Rattle.dec_oct.specs.Cost.{IsMarkedBlock}
 use Rattle.dec_oct.proofs.Walks.{joins-at, joins-turned}
 use Rattle.dec_oct.proofs.Extended.{placed-small}
 use Rattle.dec_oct.proofs.Flags.{marked-again}
 use Rattle.dec_oct.proofs.Givens.{ArePartsOf, parts-of, whole-of, loose_given-of}
 use Rattle.dec_parts.specs.Lower.{bound_in, lowered_entry, lowered_matrix, AreOffDiagonal, IsLowered}
 use Rattle.dec_parts.specs.Joined.{first_of, second_of, AreLinked, IsJoinedBy, AreLoweredParts}
-use Rattle.dec_parts.proofs.Taken.{one, one-here, in_range-one, listed-more}
+use Rattle.dec_parts.proofs.Taken.{one, at-is, one-here, in_range-one, listed-more}
 
 -- ---- links go both ways
 
@@ -64,6 +63,13 @@ joined-same n bs cs ds bounds k h e s = record {
     by i p (inl f) = subst (λ z. SameBlock ds (first_of bounds z) (second_of bounds z)) (sym f) s
     by i p (inr d) = subst (λ z. SameBlock z (first_of bounds i) (second_of bounds i)) (sym e) (h.together i (grind (arith, d)))
 
+-- what is near two variables
+data Near (cs : List (List ℕ)) (a b v : ℕ) : Type 0 where
+  is_first : a ≡ v → Near cs a b v
+  is_second : b ≡ v → Near cs a b v
+  with_first : SameBlock cs a v → Near cs a b v
+  with_second : SameBlock cs b v → Near cs a b v
+
 joined-merged : (n : ℕ) (bs cs ds : List (List ℕ)) (bounds : List OctBound) (k : ℕ) → n ≤ 512 → first_of bounds k < n → second_of bounds k < n → IsJoinedBy n bs bounds k cs → IsPartition 512 ds → IsMergedBy cs (first_of bounds k ∷ second_of bounds k ∷ []) ds
     → SameBlock ds (first_of bounds k) (second_of bounds k) → IsJoinedBy n bs bounds (k + 1) ds
 joined-merged n bs cs ds bounds k few pa pb h pd mg s = record {
@@ -85,21 +91,14 @@ joined-merged n bs cs ds bounds k few pa pb h pd mg s = record {
     in_cs : (v w : ℕ) → SameBlock cs v w → (v < n) × (w < n)
     in_cs v w t = (placed-small n cs v h.partition t.1, placed-small n cs w h.partition (subst (λ z. z < length cs) t.0 t.1))
 
-    -- what is near the two
-    data Near (v : ℕ) : Type 0 where
-      is_first : a ≡ v → Near v
-      is_second : b ≡ v → Near v
-      with_first : SameBlock cs a v → Near v
-      with_second : SameBlock cs b v → Near v
+    near : (v : ℕ) → IsNear cs (a ∷ b ∷ []) v → Near cs a b v
+    near v (zero, p, inl e) = is_first e
+    near v (zero, p, inr t) = with_first t
+    near v (suc zero, p, inl e) = is_second e
+    near v (suc zero, p, inr t) = with_second t
+    near v (suc (suc i), p, t) = absurd (omega arith)
 
-    near : (v : ℕ) → IsNear cs (a ∷ b ∷ []) v → Near v
-    near v (zero, (p, inl e)) = is_first e
-    near v (zero, (p, inr t)) = with_first t
-    near v (suc zero, (p, inl e)) = is_second e
-    near v (suc zero, (p, inr t)) = with_second t
-    near v (suc (suc i), (p, t)) = absurd (omega arith)
-
-    near-small : (v : ℕ) → Near v → v < n
+    near-small : (v : ℕ) → Near cs a b v → v < n
     near-small v (is_first e) = subst (λ t. t < n) e pa
     near-small v (is_second e) = subst (λ t. t < n) e pb
     near-small v (with_first t) = (in_cs a v t).1
@@ -137,7 +136,7 @@ joined-merged n bs cs ds bounds k few pa pb h pd mg s = record {
         ba : Linked x b a
         ba = linked-turned n x l.rows l.coherent a b ab
 
-        to : (v : ℕ) → Near v → Linked x a v
+        to : (v : ℕ) → Near cs a b v → Linked x a v
         to v (is_first e) = subst (Linked x a) e (More a b a ab ba)
         to v (is_second e) = subst (Linked x a) e ab
         to v (with_first r) = before a v r
@@ -167,22 +166,19 @@ unfolding lowered_matrix lowered_entry
 coherent-lowered n bounds x e co = coherent-table n (lowered_entry bounds x) (λ i j p q.
     ap (λ t. least t (least (listed bounds i j) (listed bounds (opposite j) (opposite i)))) (co.twins i j (omega arith) (omega arith))
     ∙ ap (least (at x (opposite j) (opposite i))) (
-      least_comm (listed bounds i j) (listed bounds (opposite j) (opposite i))
-      ∙ ap (least (listed bounds (opposite j) (opposite i))) (sym (ap (λ t. listed bounds t (opposite (opposite j))) (opposite_twice i) ∙ ap (listed bounds i) (opposite_twice j)))
+    least_comm (listed bounds i j) (listed bounds (opposite j) (opposite i))
+    ∙ ap (least (listed bounds (opposite j) (opposite i))) (sym (ap (λ t. listed bounds t (opposite (opposite j))) (opposite_twice i) ∙ ap (listed bounds i) (opposite_twice j)))
     ))
 
 -- nothing is listed where no bound stands
 pub listed-none : (bounds : List OctBound) (i j : ℕ) → ((k : ℕ) → k < length bounds → (bound_in bounds k).row ≡ i → (bound_in bounds k).column ≡ j → ⊥) → listed bounds i j ≡ None
 unfolding one
 listed-none [] i j d = refl
-listed-none (b ∷ bs) i j d = listed-more b bs i j ∙ by (cases_Bool (is_at b i j))
+listed-none (b ∷ bs) i j d = listed-more b bs i j ∙ by (cases_Bool (is_at b i j)) (listed-none bs i j (λ k p e f. d (suc k) (omega arith) e f))
   where
-    rest : listed bs i j ≡ None
-    rest = listed-none bs i j (λ k p e f. d (suc k) (omega arith) e f)
-
-    by : (is_at b i j ≡ true) ⊎ (is_at b i j ≡ false) → least (one b i j) (listed bs i j) ≡ None
-    by (inl e) = absurd (grind (arith, e, d 0))
-    by (inr e) = rw e rest
+    by : (is_at b i j ≡ true) ⊎ (is_at b i j ≡ false) → listed bs i j ≡ None → least (one b i j) (listed bs i j) ≡ None
+    by (inl e) rest = let r = at-is b i j e in absurd (d 0 (omega arith) r.0 r.1)
+    by (inr e) rest = ap (λ t. least t (listed bs i j)) (cond-false _ _ _ e) ∙ rest
 
 -- ---- what is kept apart
 
@@ -260,7 +256,7 @@ components-lowered n a bounds cs d placed off h = record {
         let r = d.value.matrix.rows in
         let p = j.row_in in
         let q = j.column_in in
-        joins-at x u w j.row j.column (omega arith) (omega arith) j.row_is j.column_is (
+        joins-at x u w j.row j.column (omega (arith, rows)) (omega (arith, rows)) j.row_is j.column_is (
           j.apart,
           subst (λ t. t ≡ None → ⊥) (sym (at-lowered n bounds (whole n a) j.row j.column (omega arith) (omega arith))) (finite-left (at (whole n a) j.row j.column) _ j.finite),
         )
@@ -279,10 +275,10 @@ components-lowered n a bounds cs d placed off h = record {
           let z = placed-in n bounds i placed p in
           let r = z.row in
           let c = z.column in
-          One _ _ (joins-at x (b.row / 2) (b.column / 2) b.row b.column (omega arith) (omega arith) refl refl (
+          One _ _ (joins-at x (b.row / 2) (b.column / 2) b.row b.column (omega (arith, rows)) (omega (arith, rows)) refl refl (
             off i p,
             subst (λ t. t ≡ None → ⊥) (sym (at-lowered n bounds (whole n a) b.row b.column r c))
-            (finite-right (at (whole n a) b.row b.column) _ (finite-left (listed bounds b.row b.column) _ (listed-finite n bounds i placed p))),
+                (finite-right (at (whole n a) b.row b.column) _ (finite-left (listed bounds b.row b.column) _ (listed-finite n bounds i placed p))),
           ));
     }
 

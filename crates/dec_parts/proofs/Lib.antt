@@ -3,5 +3,7 @@ pub mod Numbers
 pub mod Sharing
 pub mod Taken
 pub mod Joined
-pub mod Moved
+pub mod LoweredParts
+pub mod MovedVariables
 pub mod Widened
+pub mod MovedMarks

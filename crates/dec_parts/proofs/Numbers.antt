@@ -1,16 +1,14 @@
 -- Blocks under new numbers keep apart what the old ones keep apart.
-use Rattle.std.proofs.Common.{◌≡◌, ℕ, ◌+◌, ◌*◌, ◌/◌, ◌%◌, ◌<◌, ◌≤◌, ◌⊎◌, inl, inr, Bool, true, false, List, length, Option, Some, None, refl, sym, ap, ◌∙◌, subst, arith}
-use Rattle.std.specs.Prelude.{◌↔◌, pos}
-use Rattle.std.proofs.lemmas.Bool.{cases_eq, cases_lt}
+use Rattle.std.proofs.Common.{◌≡◌, ℕ, ◌+◌, ◌*◌, ◌/◌, ◌%◌, ◌<◌, ◌≤◌, ◌⊎◌, inl, inr, true, false, List, length, Option, Some, None, refl, sym, ap, ◌∙◌, subst, arith}
+use Rattle.std.proofs.lemmas.Bool.{cases_lt}
 use Rattle.std.proofs.lemmas.List.{get_or_past}
-use Rattle.oct_def.specs.Table.{Matrix, at}
-use Rattle.oct_def.specs.Matrix.{IsEvenMatrix}
+use Rattle.oct_def.specs.Table.{Matrix}
 use Rattle.oct_def.specs.Octagon.{top_entry}
-use Rattle.block_partition.specs.Partition.{member, block, home, SameBlock, IsBlock, IsPartition}
-use Rattle.block_partition.specs.Changes.{given_label, IsGroupedBy}
+use Rattle.block_partition.specs.Partition.{member, block, home, SameBlock, IsPartition}
+use Rattle.block_partition.specs.Changes.{given_label}
 use Rattle.block_laws.specs.Assembly.{is_joint, IsSeparated}
-use Rattle.block_laws.proofs.Assembly.{joint-from, joint-not, joint-gives, top_entry-off, top_entry-on}
-use Rattle.dec_parts.specs.Rename.{origin, renamed_entry, renamed_matrix, AreOrigins, IsAlone, IsNumber, AreNumbers, AreRenamedBlocks}
+use Rattle.block_laws.proofs.Assembly.{joint-from, joint-not, top_entry-off, top_entry-on}
+use Rattle.dec_parts.specs.Rename.{origin, renamed_entry, renamed_matrix, AreOrigins, IsAlone, AreRenamedBlocks}
 use Rattle.dec_parts.proofs.Renaming.{Comes, same, between, nowhere, comes, at-renamed}
 
 -- ---- which variables share a block
@@ -79,7 +77,7 @@ separated-renamed n bs origins cs m o sep r = record { apart = λ i j p q h. at-
     by : (i j : ℕ) → is_joint cs i j ≡ false → Comes origins m i j → renamed_entry origins m i j ≡ top_entry i j
     by i j h (same e f) = f ∙ sym (ap (top_entry i) (sym e) ∙ top_entry-on i)
     by i j h (nowhere d e f) = f ∙ sym (top_entry-off i j d)
-    by i j h (between u w d e f g) = g ∙ sep.apart a b (omega arith) (omega arith) old ∙ top_entry-off a b other ∙ sym (top_entry-off i j d)
+    by i j h (between u w d e f g) = g ∙ sep.apart a b (below i u e) (below j w f) old ∙ top_entry-off a b other ∙ sym (top_entry-off i j d)
       where
         a : ℕ
         a = 2 * u + i % 2
@@ -87,23 +85,20 @@ separated-renamed n bs origins cs m o sep r = record { apart = λ i j p q h. at-
         b : ℕ
         b = 2 * w + j % 2
 
-        pu : u < n
-        pu = o (i / 2) u e
+        below : (k x : ℕ) → origin origins (k / 2) ≡ Some x → 2 * x + k % 2 < 2 * n
+        below k x z = let p = o (k / 2) x z in omega arith
 
-        pw : w < n
-        pw = o (j / 2) w f
-
-        half_a : a / 2 ≡ u
-        half_a = omega arith
-
-        half_b : b / 2 ≡ w
-        half_b = omega arith
+        half : (x k : ℕ) → (2 * x + k % 2) / 2 ≡ x
+        half x k = omega arith
 
         old : is_joint bs a b ≡ false
-        old = joint-not bs a b (λ s t. joint i j h (same-held bs origins cs (i / 2) (j / 2) u w r e f (sym (ap (home bs) half_a) ∙ s ∙ ap (home bs) half_b, subst (λ z. home bs z < length bs) half_a t)))
+        old = joint-not bs a b (λ s t. joint i j h (same-held bs origins cs (i / 2) (j / 2) u w r e f (sym (ap (home bs) (half u i)) ∙ s ∙ ap (home bs) (half w j), subst (λ z. home bs z < length bs) (half u i) t)))
+
+        variables : (x y k l : ℕ) → 2 * x + k % 2 ≡ 2 * y + l % 2 → (x ≡ y) × (k % 2 ≡ l % 2)
+        variables x y k l s = (omega arith, omega arith)
 
         other : a ≡ b → ⊥
         other s =
-            let t : u ≡ w = omega arith in
-            let z : i / 2 ≡ j / 2 → ⊥ = λ c. d (omega arith) in
-            joint i j h (same-old bs origins cs (i / 2) (j / 2) u r z e (subst (λ k. origin origins (j / 2) ≡ Some k) (sym t) f))
+            let t = variables u w i j s in
+            let z : i / 2 ≡ j / 2 → ⊥ = λ c. let q = t.1 in d (omega arith) in
+            joint i j h (same-old bs origins cs (i / 2) (j / 2) u r z e (subst (λ k. origin origins (j / 2) ≡ Some k) (sym t.0) f))

@@ -1,15 +1,15 @@
 -- A matrix under new numbers of its variables.
-use Rattle.std.proofs.Common.{◌≡◌, ℕ, ◌+◌, ◌*◌, ◌/◌, ◌%◌, ◌<◌, ◌⊎◌, inl, inr, Bool, true, false, cond, eqb, List, length, Option, Some, None, refl, sym, ap, ◌∙◌, subst, arith}
+use Rattle.std.proofs.Common.{◌≡◌, ℕ, ◌+◌, ◌*◌, ◌/◌, ◌%◌, ◌<◌, ◌⊎◌, inl, inr, Bool, cond, List, length, Option, Some, None, refl, sym, ap, ◌∙◌, subst, arith}
 use Rattle.std.specs.Prelude.{pos}
 use Rattle.std.proofs.lemmas.Int.{ints}
 use Rattle.std.proofs.lemmas.Bool.{eq-eqb, ne_eqb, cases_eq}
-use Rattle.oct_def.specs.Bound.{Bound, InRange, IsEven}
-use Rattle.oct_def.specs.Table.{Matrix, table, at}
+use Rattle.oct_def.specs.Bound.{InRange, IsEven}
+use Rattle.oct_def.specs.Table.{Matrix, at}
 use Rattle.oct_def.specs.Matrix.{opposite, IsCoherent, IsEvenMatrix}
 use Rattle.oct_def.proofs.Tables.{length-table, at-table, square-table, table-same}
 use Rattle.oct_def.proofs.Coherent.{coherent-table}
 use Rattle.oct_def.proofs.Values.{each-table, EvenUnary, even_unary-table}
-use Rattle.block_partition.specs.Partition.{member, IsBlock}
+use Rattle.block_partition.specs.Partition.{IsBlock}
 use Rattle.block_laws.specs.Assembly.{outer, restrict_entry, restrict}
 use Rattle.block_laws.proofs.Places.{outer-half, outer_below}
 use Rattle.dec_parts.specs.Rename.{origin, signed_origin, origin_dimension, picked, renamed_entry, renamed_matrix, AreOrigins, KeepNumbers}
@@ -23,6 +23,17 @@ dimension-old origins i u e = ap (signed_origin i) e
 pub dimension-new : (origins : List (Option ℕ)) (i : ℕ) → origin origins (i / 2) ≡ None → origin_dimension origins i ≡ None
 unfolding origin_dimension
 dimension-new origins i e = ap (signed_origin i) e
+
+pub dimension-below : (n : ℕ) (origins : List (Option ℕ)) (i p : ℕ) → AreOrigins n origins → origin_dimension origins i ≡ Some p → p < 2 * n
+dimension-below n origins i p o e = by (origin origins (i / 2)) refl
+  where
+    by : (a : Option ℕ) → origin origins (i / 2) ≡ a → p < 2 * n
+    by None f = let g : None ≡ Some p = sym (dimension-new origins i f) ∙ e in absurd (cc)
+    by (Some u) f =
+        let g : Some (2 * u + i % 2) ≡ Some p = sym (dimension-old origins i u f) ∙ e in
+        let h : 2 * u + i % 2 ≡ p = cc in
+        let b = o (i / 2) u f in
+        omega arith
 
 -- ---- entries
 
@@ -63,10 +74,6 @@ comes origins m i j = by (cases_eq i j) (origin origins (i / 2)) (origin origins
     by (inr d) (Some u) (Some w) f g = between u w d f g (renamed-old origins m i j _ _ d (dimension-old origins i u f) (dimension-old origins j w g))
 
 -- ---- the matrix
-
-pub length-renamed : (origins : List (Option ℕ)) (m : Matrix) → length (renamed_matrix origins m) ≡ 2 * length origins
-unfolding renamed_matrix
-length-renamed origins m = length-table (2 * length origins) (renamed_entry origins m)
 
 pub at-renamed : (origins : List (Option ℕ)) (m : Matrix) (i j : ℕ) → i < 2 * length origins → j < 2 * length origins → at (renamed_matrix origins m) i j ≡ renamed_entry origins m i j
 unfolding renamed_matrix

@@ -1,25 +1,54 @@
 -- The value under new numbers, and the marks that it keeps.
-use Rattle.std.proofs.Common.{◌≡◌, ℕ, ◌+◌, ◌*◌, ◌<◌, ◌≤◌, ◌⊎◌, inl, inr, Bool, true, List, length, Option, Some, None, refl, sym, ap, ◌∙◌, subst, arith}
-use Rattle.std.specs.Prelude.{◌↔◌}
+use Rattle.std.proofs.Common.{◌≡◌, ℕ, ◌+◌, ◌*◌, ◌<◌, ◌≤◌, ◌⊎◌, inl, inr, Bool, true, false, List, length, Option, Some, None, refl, sym, ap, ◌∙◌, subst, arith}
+use Rattle.std.specs.Prelude.{IsSome, IfSome}
 use Rattle.std.specs.Option.{option_map}
 use Rattle.std.proofs.lemmas.Bool.{cases_lt}
-use Rattle.oct_def.specs.Table.{Matrix}
-use Rattle.oct_def.specs.Tight.{tight}
+use Rattle.oct_def.specs.Table.{Matrix, at}
+use Rattle.oct_def.specs.Matrix.{opposite, IsSquare, IsCoherent, IsEvenMatrix}
 use Rattle.oct_def.specs.Octagon.{bottom_value}
 use Rattle.block_partition.specs.Partition.{member, block, home, IsIn, SameBlock, IsBlock, IsPartition}
 use Rattle.block_partition.specs.Changes.{given_label}
 use Rattle.block_partition.proofs.Places.{home_in, home-in, in-member, block_count}
-use Rattle.block_partition.proofs.Unique.{IsRising, IsWithin, rising-unique}
-use Rattle.block_laws.specs.Assembly.{matrix, restrict, assembly, IsSeparated}
-use Rattle.block_laws.proofs.Assembly.{length-assembly, separated-assembly, restrict-assembly}
-use Rattle.dec_oct.specs.Value.{Blocks, blocks_of, whole, marked, Decomposed, decomposed, octagon, octagon_of, IsSettled, IsDecomposition, IsKeptBlocks, IsKept}
+use Rattle.block_partition.proofs.Unique.{IsRising, rising-unique}
+use Rattle.block_laws.specs.Assembly.{outer, matrix, restrict, assembly}
+use Rattle.block_laws.proofs.Assembly.{separated-assembly, restrict-assembly}
+use Rattle.dec_oct.specs.Value.{Blocks, blocks_of, whole, marked, Decomposed, decomposed, octagon, octagon_of, IsDecomposition, IsKeptBlocks, IsKept}
 use Rattle.dec_oct.specs.Cost.{IsMarkedBlock}
 use Rattle.dec_oct.specs.Given.{IsEvenGiven, KeepsMarks, KeepsMarksOf}
+use Rattle.block_laws.proofs.Places.{outer_below}
+use Rattle.dec_oct.proofs.Stored.{part-is}
+use Rattle.dec_oct.proofs.Words.{stored-below}
 use Rattle.dec_oct.proofs.Flags.{marked-again}
 use Rattle.dec_oct.proofs.Givens.{ArePartsOf, whole-of, even_given-of}
-use Rattle.dec_parts.specs.Rename.{origin, renamed_matrix, renamed_value, AreOrigins, AreUnmoved, KeepsOwnMarks, KeepsOwnMarksOf, IsAlone, AreRenamedBlocks, IsRenamedPart, AreRenamedParts}
-use Rattle.dec_parts.proofs.Renaming.{even-renamed, length-renamed, part-kept}
-use Rattle.dec_parts.proofs.Numbers.{same-held, separated-renamed}
+use Rattle.dec_parts.specs.Rename.{origin, renamed_entry, renamed_matrix, renamed_value, AreOrigins, KeepNumbers, AreUnmoved, KeepsOwnMarks, KeepsOwnMarksOf, IsAlone, AreRenamedBlocks, IsRenamedPart, AreRenamedParts}
+use Rattle.dec_parts.proofs.Renaming.{even-renamed, at-renamed, part-kept}
+use Rattle.dec_parts.proofs.Numbers.{origin-small, same-held, renamed-partition, separated-renamed}
+
+-- ---- parts
+
+pub part-of_kept : (n : ℕ) (origins : List (Option ℕ)) (a : Blocks) (vs : List ℕ) (m : Matrix) (mark : Bool) → IsDecomposition n a → AreOrigins n origins → IsBlock (length origins) vs → KeepNumbers origins vs → m ≡ restrict vs (whole n a)
+    → (mark ≡ true → IsMarkedBlock a vs m) → (mark ≡ false → IsMarkedBlock a vs m → ⊥) → IsRenamedPart n origins a vs m mark
+part-of_kept n origins a vs m mark d o bl k e y f = record {
+  words = e ∙ part-kept n origins (whole n a) vs d.value o bl k;
+  yes = y;
+  kept = λ _ h. by mark refl h;
+}
+  where
+    by : (b : Bool) → mark ≡ b → IsMarkedBlock a vs m → mark ≡ true
+    by true g h = g
+    by false g h = absurd (f g h)
+
+pub part-of_moved : (n : ℕ) (origins : List (Option ℕ)) (a : Blocks) (vs : List ℕ) (m : Matrix) → IsDecomposition n a → AreOrigins n origins → IsBlock (length origins) vs → (KeepNumbers origins vs → ⊥) → length m ≡ 2 * length vs → IsSquare m → IsCoherent m
+    → ((i j : ℕ) → i < 2 * length vs → j < opposite i + 1 → at m i j ≡ renamed_entry origins (whole n a) (outer vs i) (outer vs j)) → IsRenamedPart n origins a vs m false
+part-of_moved n origins a vs m d o bl k e sq co h = record {
+  words = part-is (length origins) vs (renamed_matrix origins (whole n a)) m bl v.matrix.rows v.matrix.coherent e sq co (λ i j p q.
+      h i j p q ∙ sym (at-renamed origins (whole n a) (outer vs i) (outer vs j) (outer_below (length origins) vs i bl p) (outer_below (length origins) vs j bl (stored-below (length vs) i j p q))));
+  yes = λ g. absurd (cc);
+  kept = λ g _. absurd (k g);
+}
+  where
+    v : IsEvenMatrix (length origins) (renamed_matrix origins (whole n a))
+    v = even-renamed n origins (whole n a) o d.value
 
 -- what the renaming of blocks gave
 pub record IsRenaming (n : ℕ) (origins : List (Option ℕ)) (a : Blocks) (cs : List (List ℕ)) (ms : List Matrix) (marks : List Bool) : Type 0 where
@@ -38,11 +67,11 @@ parts-renamed n origins a cs ms marks h = record {
   each = λ c p. (h.parts.each c p).words;
 }
 
-pub given-renamed : (n : ℕ) (origins : List (Option ℕ)) (a : Blocks) (cs : List (List ℕ)) (ms : List Matrix) (marks : List Bool) → IsRenaming n origins a cs ms marks → IsEvenGiven (length origins) (blocks_of cs ms marks)
+given-renamed : (n : ℕ) (origins : List (Option ℕ)) (a : Blocks) (cs : List (List ℕ)) (ms : List Matrix) (marks : List Bool) → IsRenaming n origins a cs ms marks → IsEvenGiven (length origins) (blocks_of cs ms marks)
 given-renamed n origins a cs ms marks h = even_given-of (length origins) (renamed_matrix origins (whole n a)) cs ms marks (even-renamed n origins (whole n a) h.origins_in h.old.value) (parts-renamed n origins a cs ms marks h) h.parts.size
     (record { again = λ b p g. marked-again a (block cs b) (matrix ms b) h.old.parts.count h.old.settled ((h.parts.each b (let e = h.parts.count in omega arith)).yes g) })
 
-pub whole-renamed : (n : ℕ) (origins : List (Option ℕ)) (a : Blocks) (cs : List (List ℕ)) (ms : List Matrix) (marks : List Bool) → IsRenaming n origins a cs ms marks → assembly (length origins) cs ms ≡ renamed_matrix origins (whole n a)
+whole-renamed : (n : ℕ) (origins : List (Option ℕ)) (a : Blocks) (cs : List (List ℕ)) (ms : List Matrix) (marks : List Bool) → IsRenaming n origins a cs ms marks → assembly (length origins) cs ms ≡ renamed_matrix origins (whole n a)
 whole-renamed n origins a cs ms marks h =
     let v = even-renamed n origins (whole n a) h.origins_in h.old.value in
     whole-of (length origins) (renamed_matrix origins (whole n a)) cs ms v.matrix.square v.matrix.rows (parts-renamed n origins a cs ms marks h)
@@ -93,10 +122,10 @@ keeps-own n origins a r cs ms marks h d k = record { kept = λ p c i j f un mark
         inside : (x : ℕ) → x < length vs → IsIn (block cs q) (member vs x)
         inside x z =
             let e : home cs (member vs x) ≡ q = sym (together x z).0 in
-            subst (λ t. IsIn (block cs t) (member vs x)) e (home_in cs (member vs x) (omega (arith, within)))
+            subst (λ t. IsIn (block cs t) (member vs x)) e (home_in cs (member vs x) (subst (λ t. t < length cs) (together x z).0 within))
 
         number : given_label h.blocks.numbers first ≡ Some p
-        number = (h.blocks.are.each first (omega (arith, (h.partition.blocks q within).below 0 (omega (arith, inside 0 filled))))).held first (own 0 filled) (subst (λ t. t < length a.partition) (sym first_at) i) ∙ ap Some first_at
+        number = (h.blocks.are.each first (origin-small origins first first (own 0 filled))).held first (own 0 filled) (subst (λ t. t < length a.partition) (sym first_at) i) ∙ ap Some first_at
 
         back : (w : ℕ) → w < length origins → home cs w ≡ q → IsIn vs w
         back w z e = which (origin origins w) refl
@@ -121,6 +150,7 @@ keeps-own n origins a r cs ms marks h d k = record { kept = λ p c i j f un mark
                         let s : Some (512 + x) ≡ Some p = sym t ∙ shown in
                         let y : 512 + x ≡ p = cc in
                         let m = h.small in
+                        let l = few in
                         absurd (omega arith)
                     free (inr t) = let s : None ≡ Some p = sym t.0 ∙ shown in absurd (cc)
 
@@ -140,19 +170,48 @@ keeps-own n origins a r cs ms marks h d k = record { kept = λ p c i j f un mark
 
 -- ---- the result
 
-pub value-renamed : (n : ℕ) (origins : List (Option ℕ)) (a : Blocks) (cs : List (List ℕ)) (ms : List Matrix) (marks : List Bool) (r : Decomposed) → IsRenaming n origins a cs ms marks → octagon r ≡ octagon_of (length origins) (Some (assembly (length origins) cs ms))
-    → octagon r ≡ renamed_value origins (octagon (decomposed n (Some a)))
+-- what was made of a value that isn't Bottom
+pub record IsMade (n : ℕ) (origins : List (Option ℕ)) (a : Option Blocks) (bs cs : List (List ℕ)) (k : ℕ) (ds : List (List ℕ)) (ms : List Matrix) (marks : List Bool) : Type 0 where
+  pub small : n ≤ 512
+  pub old : IsKeptBlocks n a
+  pub some : IsSome a
+  pub origins_in : AreOrigins n origins
+  pub own : IfSome a (λ b. bs ≡ b.partition)
+  pub blocks : AreRenamedBlocks bs origins cs
+  pub partition : IsPartition 512 cs
+  pub dims : k ≡ length origins
+  pub same : ds ≡ cs
+  pub parts : IfSome a (λ b. AreRenamedParts n origins b cs ms marks)
+
+renaming-made : (n : ℕ) (origins : List (Option ℕ)) (a : Blocks) (bs cs : List (List ℕ)) (k : ℕ) (ds : List (List ℕ)) (ms : List Matrix) (marks : List Bool) → IsMade n origins (Some a) bs cs k ds ms marks → IsRenaming n origins a ds ms marks
+renaming-made n origins a bs cs k ds ms marks h = record {
+  small = h.small;
+  old = h.old;
+  origins_in = h.origins_in;
+  blocks = subst (λ t. AreRenamedBlocks a.partition origins t) (sym h.same) (subst (λ t. AreRenamedBlocks t origins cs) h.own h.blocks);
+  partition = subst (IsPartition (length origins)) (sym h.same) (renamed-partition bs origins cs h.blocks h.partition);
+  parts = subst (λ t. AreRenamedParts n origins a t ms marks) (sym h.same) h.parts;
+}
+
+pub given-made : (n : ℕ) (origins : List (Option ℕ)) (a : Option Blocks) (bs cs : List (List ℕ)) (k : ℕ) (ds : List (List ℕ)) (ms : List Matrix) (marks : List Bool) → IsMade n origins a bs cs k ds ms marks → IsEvenGiven k (blocks_of ds ms marks)
+given-made n origins None bs cs k ds ms marks h = absurd (let s = h.some in cc)
+given-made n origins (Some a) bs cs k ds ms marks h = subst (λ t. IsEvenGiven t (blocks_of ds ms marks)) (sym h.dims) (given-renamed n origins a ds ms marks (renaming-made n origins a bs cs k ds ms marks h))
+
+pub value-made : (n : ℕ) (origins : List (Option ℕ)) (a : Option Blocks) (bs cs : List (List ℕ)) (k : ℕ) (ds : List (List ℕ)) (ms : List Matrix) (marks : List Bool) (r : Decomposed) → IsMade n origins a bs cs k ds ms marks → octagon r ≡ octagon_of k (Some (assembly k ds ms))
+    → octagon r ≡ renamed_value origins (octagon (decomposed n a))
 unfolding renamed_value
-value-renamed n origins a cs ms marks r h e = e ∙ ap (λ m. octagon_of (length origins) (Some m)) (whole-renamed n origins a cs ms marks h)
+value-made n origins None bs cs k ds ms marks r h e = absurd (let s = h.some in cc)
+value-made n origins (Some a) bs cs k ds ms marks r h e = e ∙ ap (λ t. octagon_of t (Some (assembly t ds ms))) h.dims ∙ ap (λ m. octagon_of (length origins) (Some m)) (whole-renamed n origins a ds ms marks (renaming-made n origins a bs cs k ds ms marks h))
 
-pub value-bottom : (n : ℕ) (origins : List (Option ℕ)) (r : Decomposed) → octagon r ≡ bottom_value (length origins) → octagon r ≡ renamed_value origins (octagon (decomposed n None))
+pub value-bottom : (n : ℕ) (origins : List (Option ℕ)) (a : Option Blocks) (r : Decomposed) → a ≡ None → octagon r ≡ bottom_value (length origins) → octagon r ≡ renamed_value origins (octagon (decomposed n a))
 unfolding renamed_value bottom_value
-value-bottom n origins r e = e
+value-bottom n origins a r z e = e ∙ sym (ap (λ t. renamed_value origins (octagon (decomposed n t))) z)
 
-pub marks-renamed : (n : ℕ) (origins : List (Option ℕ)) (a : Blocks) (cs : List (List ℕ)) (ms : List Matrix) (marks : List Bool) (r : Decomposed) → IsRenaming n origins a cs ms marks → octagon r ≡ octagon_of (length origins) (Some (assembly (length origins) cs ms))
-    → IsKept r → KeepsMarksOf (blocks_of cs ms marks) r.blocks → KeepsOwnMarksOf origins (Some a) r.blocks
-marks-renamed n origins a cs ms marks r h e kept k = by r.dims r.blocks (ap (λ z. z.dims) e) (ap (λ z. z.matrix) e) kept.blocks k
+pub marks-made : (n : ℕ) (origins : List (Option ℕ)) (a : Option Blocks) (bs cs : List (List ℕ)) (k : ℕ) (ds : List (List ℕ)) (ms : List Matrix) (marks : List Bool) (r : Decomposed) → IsMade n origins a bs cs k ds ms marks → octagon r ≡ octagon_of k (Some (assembly k ds ms))
+    → IsKept r → KeepsMarksOf (blocks_of ds ms marks) r.blocks → KeepsOwnMarksOf origins a r.blocks
+marks-made n origins None bs cs k ds ms marks r h e kept m = absurd (let s = h.some in cc)
+marks-made n origins (Some a) bs cs k ds ms marks r h e kept m = by r.dims r.blocks (ap (λ z. z.dims) e ∙ h.dims) (ap (λ z. z.matrix) e) kept.blocks m
   where
-    by : (d : ℕ) (o : Option Blocks) → d ≡ length origins → option_map (whole d) o ≡ Some (assembly (length origins) cs ms) → IsKeptBlocks d o → KeepsMarksOf (blocks_of cs ms marks) o → KeepsOwnMarksOf origins (Some a) o
+    by : (d : ℕ) (o : Option Blocks) → d ≡ length origins → option_map (whole d) o ≡ Some (assembly k ds ms) → IsKeptBlocks d o → KeepsMarksOf (blocks_of ds ms marks) o → KeepsOwnMarksOf origins (Some a) o
     by d None g j x y = absurd (cc)
-    by d (Some b) g j x y = keeps-own n origins a b cs ms marks h (subst (λ t. IsDecomposition t b) g x) y
+    by d (Some b) g j x y = keeps-own n origins a b ds ms marks (renaming-made n origins a bs cs k ds ms marks h) (subst (λ t. IsDecomposition t b) g x) y

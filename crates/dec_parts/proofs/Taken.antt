@@ -1,5 +1,5 @@
 -- Parts that take listed bounds are the parts of the whole matrix that takes them.
-use Rattle.std.proofs.Common.{◌≡◌, ℕ, ◌*◌, ◌/◌, ◌<◌, ◌≤◌, ◌⊎◌, inl, inr, Bool, true, false, cond, List, [], ◌∷◌, length, Some, None, refl, sym, ap, ◌∙◌, subst, arith}
+use Rattle.std.proofs.Common.{◌≡◌, ℕ, ◌*◌, ◌/◌, ◌<◌, ◌⊎◌, inl, inr, Bool, true, false, cond, List, [], ◌∷◌, length, None, refl, sym, ap, ◌∙◌, subst, arith, ◌+◌, ◌%◌, drop, add-one, drop-cons, suc}
 use Rattle.std.proofs.lemmas.Bool.{cases_Bool, cond-true, cond-false, eqb-true, eq-eqb, lt-ltb, ltb-true, and_from, and_parts}
 use Rattle.std.specs.Prelude.{nat_eq}
 use Rattle.oct_def.specs.Bound.{Bound, InRange, least, bound_of}
@@ -7,7 +7,7 @@ use Rattle.oct_def.specs.Table.{Matrix, table, at}
 use Rattle.oct_def.specs.Matrix.{opposite, IsSquare, IsCoherent}
 use Rattle.oct_def.proofs.Bounds.{least_self}
 use Rattle.oct_def.proofs.Orders.{least_none, least_comm, least_assoc, least_swap}
-use Rattle.oct_def.proofs.Tables.{length-table, at-table, square-table, is-table}
+use Rattle.oct_def.proofs.Tables.{at-table, square-table, is-table}
 use Rattle.oct_def.proofs.Coherent.{coherent-table}
 use Rattle.oct_def.proofs.Indices.{opposite_twice, opposite_below}
 use Rattle.interval_form.specs.declared.constraints.OctBound.{OctBound}
@@ -24,7 +24,7 @@ use Rattle.block_laws.proofs.Places.{outer_in, outer_below, outer-opposite, inne
 use Rattle.block_laws.proofs.Restrict.{length-restrict, at-restrict}
 use Rattle.dec_oct.proofs.Cuts.{square-part}
 use Rattle.dec_oct.proofs.Givens.{coherent-part}
-use Rattle.dec_parts.specs.Lower.{lowered_entry, lowered_matrix}
+use Rattle.dec_parts.specs.Lower.{bound_in, Touches, lowered_entry, lowered_matrix}
 use Rattle.dec_parts.specs.Joined.{is_inside, with_taken, with_all_taken}
 
 -- ---- what one bound says of a place
@@ -206,8 +206,8 @@ at-taken n vs m b bl e co r c p q = by (cases_Bool (is_inside vs b))
         which (inr g) =
             read ∙ cond-false _ _ _ g ∙ sym (least_none (at m r c))
             ∙ sym (ap (least (at m r c)) (
-              ap (λ t. least t (one b (outer vs (opposite c)) (outer vs (opposite r)))) (out r c p q (λ x y. let z = of_same i j r c (inl (x, y)) in cc))
-              ∙ out (opposite c) (opposite r) q' p' (λ x y. let z = of_same i j r c (inr (sym (opposite_twice r) ∙ ap opposite y, sym (opposite_twice c) ∙ ap opposite x)) in cc)
+            ap (λ t. least t (one b (outer vs (opposite c)) (outer vs (opposite r)))) (out r c p q (λ x y. let z = of_same i j r c (inl (x, y)) in cc))
+            ∙ out (opposite c) (opposite r) q' p' (λ x y. let z = of_same i j r c (inr (sym (opposite_twice r) ∙ ap opposite y, sym (opposite_twice c) ∙ ap opposite x)) in cc)
             ))
         which (inl g) = read ∙ cond-true _ _ _ g ∙ side (same_of i j r c g)
           where
@@ -235,6 +235,9 @@ at-taken n vs m b bl e co r c p q = by (cases_Bool (is_inside vs b))
 least-four : (a b c d : Bound) → least (least a b) (least c d) ≡ least (least a c) (least b d)
 least-four a b c d = least_assoc a b (least c d) ∙ (ap (least a) (least_swap b c d) ∙ sym (least_assoc a c (least b d)))
 
+take-more : (x a b c d y z : Bound) → y ≡ least a c → z ≡ least b d → least (least x (least a b)) (least c d) ≡ least x (least y z)
+take-more x a b c d y z e f = least_assoc x (least a b) (least c d) ∙ ap (least x) (least-four a b c d ∙ ap (λ t. least t (least b d)) (sym e) ∙ ap (least y) (sym f))
+
 -- the entry once all are taken
 at-all_taken : (n : ℕ) (vs : List ℕ) (bs : List OctBound) (m : Matrix) → IsBlock n vs → length m ≡ 2 * length vs → IsCoherent m → (r c : ℕ) → r < 2 * length vs → c < 2 * length vs
     → at (with_all_taken vs m bs) r c ≡ least (at m r c) (least (listed bs (outer vs r) (outer vs c)) (listed bs (outer vs (opposite c)) (outer vs (opposite r))))
@@ -242,9 +245,8 @@ at-all_taken n vs [] m bl e co r c p q = sym (least_none (at m r c))
 at-all_taken n vs (b ∷ bs) m bl e co r c p q =
     at-all_taken n vs bs (with_taken vs m b) bl (length-taken vs m b ∙ e) (coherent-taken vs m b e co) r c p q
     ∙ ap (λ t. least t (least (listed bs (outer vs r) (outer vs c)) (listed bs (outer vs (opposite c)) (outer vs (opposite r))))) (at-taken n vs m b bl e co r c p q)
-    ∙ least_assoc (at m r c) _ _
-    ∙ ap (least (at m r c)) (least-four _ _ _ _ ∙ ap (λ t. least t (least (one b (outer vs (opposite c)) (outer vs (opposite r))) (listed bs (outer vs (opposite c)) (outer vs (opposite r))))) (sym (listed-more b bs (outer vs r) (outer vs c)))
-    ∙ ap (least (listed (b ∷ bs) (outer vs r) (outer vs c))) (sym (listed-more b bs (outer vs (opposite c)) (outer vs (opposite r)))))
+    ∙ take-more (at m r c) (one b (outer vs r) (outer vs c)) (one b (outer vs (opposite c)) (outer vs (opposite r))) (listed bs (outer vs r) (outer vs c)) (listed bs (outer vs (opposite c)) (outer vs (opposite r))) _ _
+    (listed-more b bs (outer vs r) (outer vs c)) (listed-more b bs (outer vs (opposite c)) (outer vs (opposite r)))
 
 length-all_taken : (vs : List ℕ) (bs : List OctBound) (m : Matrix) → length (with_all_taken vs m bs) ≡ length m
 length-all_taken vs [] m = refl
@@ -264,3 +266,38 @@ part-taken n vs bs x bl e co =
     ∙ ap (λ t. least (at x (outer vs r) (outer vs c)) (least (listed bs (outer vs r) (outer vs c)) (listed bs t (outer vs (opposite r))))) (outer-opposite vs c)
     ∙ ap (λ t. least (at x (outer vs r) (outer vs c)) (least (listed bs (outer vs r) (outer vs c)) (listed bs (opposite (outer vs c)) t))) (outer-opposite vs r)
     ∙ sym (at-table (2 * n) (lowered_entry bs x) (outer vs r) (outer vs c) (outer_below n vs r bl p) (outer_below n vs c bl q)))
+
+-- ---- the code's steps
+
+pub taken-in : (vs : List ℕ) (m x : Matrix) (b : OctBound) (r c : ℕ) (e : Bound) → r ≡ place vs (b.row / 2) → c ≡ place vs (b.column / 2) → r < length vs → c < length vs → e ≡ least (at m (2 * r + b.row % 2) (2 * c + b.column % 2)) (bound_of b.word)
+    → x ≡ with_entry m (2 * r + b.row % 2) (2 * c + b.column % 2) e → x ≡ with_taken vs m b
+unfolding inner
+taken-in vs m x b r c e f g p q w h =
+    h ∙ ap (with_entry m (2 * r + b.row % 2) (2 * c + b.column % 2)) w ∙ ap (λ t. with_entry m t (2 * c + b.column % 2) (least (at m t (2 * c + b.column % 2)) (bound_of b.word))) at_row
+    ∙ ap (λ t. with_entry m (inner vs b.row) t (least (at m (inner vs b.row) t) (bound_of b.word))) at_column
+    ∙ sym (taken-inside vs m b (is-inside vs b (subst (λ t. t < length vs) f p) (subst (λ t. t < length vs) g q)))
+  where
+    at_row : 2 * r + b.row % 2 ≡ inner vs b.row
+    at_row = ap (λ t. 2 * t + b.row % 2) f
+
+    at_column : 2 * c + b.column % 2 ≡ inner vs b.column
+    at_column = ap (λ t. 2 * t + b.column % 2) g
+
+pub taken-out : (vs : List ℕ) (m : Matrix) (b : OctBound) → (IsIn vs (b.row / 2) → IsIn vs (b.column / 2) → ⊥) → m ≡ with_taken vs m b
+taken-out vs m b d = by (cases_Bool (is_inside vs b))
+  where
+    by : (is_inside vs b ≡ true) ⊎ (is_inside vs b ≡ false) → m ≡ with_taken vs m b
+    by (inl h) = let k = inside-is vs b h in absurd (d k.first k.second)
+    by (inr h) = sym (taken-outside vs m b h)
+
+pub all_taken-next : (vs : List ℕ) (m x : Matrix) (bs : List OctBound) (k : ℕ) → k < length bs → x ≡ with_taken vs m (bound_in bs k)
+    → (length x ≡ length m) × (with_all_taken vs x (drop (k + 1) bs) ≡ with_all_taken vs m (drop k bs))
+all_taken-next vs m x bs k p e = (ap length e ∙ length-taken vs m (bound_in bs k), ap (λ t. with_all_taken vs t (drop (k + 1) bs)) e ∙ sym (ap (with_all_taken vs m) first))
+  where
+    first : drop k bs ≡ bound_in bs k ∷ drop (k + 1) bs
+    first = rw add-one (drop-cons bs k _ p)
+
+-- what no bound touches stays
+pub all_taken-none : (vs : List ℕ) (m : Matrix) (bs : List OctBound) → (Touches bs vs → ⊥) → with_all_taken vs m bs ≡ m
+all_taken-none vs m [] d = refl
+all_taken-none vs m (b ∷ bs) d = ap (λ t. with_all_taken vs t bs) (sym (taken-out vs m b (λ p q. d (0, omega arith, inl p)))) ∙ all_taken-none vs m bs (λ t. d (suc t.0, omega (arith, t.1), t.2))

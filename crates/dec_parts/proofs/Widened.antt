@@ -1,12 +1,10 @@
 -- The whole matrix of blocks over more variables is the old one, extended.
-use Rattle.std.proofs.Common.{◌≡◌, ℕ, ◌+◌, ◌*◌, ◌/◌, ◌<◌, ◌≤◌, ◌⊎◌, inl, inr, Bool, true, false, List, length, refl, sym, ap, ◌∙◌, subst, arith}
-use Rattle.std.specs.Prelude.{nat_lt, ◌&&◌}
-use Rattle.std.proofs.lemmas.Bool.{cases_lt, cond-true, cond-false, lt-ltb, le-ltb, and_from}
+use Rattle.std.proofs.Common.{◌≡◌, ℕ, ◌+◌, ◌*◌, ◌/◌, ◌<◌, ◌≤◌, ◌⊎◌, inl, inr, length, refl, sym, ◌∙◌, subst, arith}
+use Rattle.std.proofs.lemmas.Bool.{cases_lt, lt-ltb, le-ltb}
 use Rattle.oct_def.specs.Table.{Matrix, at}
 use Rattle.oct_def.specs.Octagon.{top_entry}
 use Rattle.oct_def.proofs.Tables.{is-table, square-table}
-use Rattle.block_partition.specs.Partition.{home, IsPartition}
-use Rattle.block_laws.specs.Assembly.{is_joint, assembly_entry, assembly, IsParts}
+use Rattle.block_laws.specs.Assembly.{assembly_entry, assembly, IsParts}
 use Rattle.block_laws.proofs.Assembly.{length-assembly, separated-assembly, joint-not}
 use Rattle.transfer_def.specs.Dimensions.{extended_entry, extended}
 use Rattle.dec_oct.specs.Value.{Blocks, whole}

@@ -5,7 +5,7 @@ use Rattle.oct_def.specs.Table.{Matrix, at}
 use Rattle.oct_def.specs.Matrix.{IsCoherent}
 use Rattle.interval_form.specs.declared.constraints.OctBound.{OctBound}
 use Rattle.half_matrix.specs.Lending.{with_entry}
-use Rattle.block_partition.specs.Partition.{place, block, IsIn, SameBlock, IsPartition}
+use Rattle.block_partition.specs.Partition.{place, block, SameBlock, IsPartition}
 use Rattle.block_laws.specs.Assembly.{inner, matrix, restrict}
 use Rattle.block_laws.specs.Components.{Linked}
 use Rattle.dec_oct.specs.Value.{Blocks, marked, whole}

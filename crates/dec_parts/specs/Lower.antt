@@ -1,11 +1,11 @@
 -- Values with listed bounds taken by minimum.
-use Rattle.std.specs.Prelude.{◌≡◌, ℕ, ◌*◌, ◌/◌, ◌<◌, ◌⊎◌, ◌↔◌, Bool, true, Option, Some, None, List, length, slice_index_or, pos}
+use Rattle.std.specs.Prelude.{◌≡◌, ℕ, ◌*◌, ◌/◌, ◌<◌, ◌⊎◌, ◌↔◌, true, List, length, slice_index_or, pos}
 use Rattle.oct_def.specs.Bound.{Bound, least}
 use Rattle.oct_def.specs.Table.{Matrix, table, at}
 use Rattle.oct_def.specs.Matrix.{opposite}
 use Rattle.interval_form.specs.declared.constraints.OctBound.{OctBound}
 use Rattle.interval_form.specs.Listing.{listed}
-use Rattle.block_partition.specs.Partition.{block, IsIn, SameBlock, IsPartition}
+use Rattle.block_partition.specs.Partition.{block, IsIn}
 use Rattle.block_laws.specs.Assembly.{matrix, IsParts}
 use Rattle.block_laws.specs.Components.{IsComponents}
 use Rattle.dec_oct.specs.Value.{Blocks, marked, whole}

@@ -1,5 +1,5 @@
 -- Added variables that take the places of others.
-use Rattle.std.specs.Prelude.{◌≡◌, ℕ, ◌+◌, ◌<◌, ◌⊎◌, Bool, true, false, Option, Some, None, List, length}
+use Rattle.std.specs.Prelude.{◌≡◌, ℕ, ◌+◌, ◌<◌, ◌⊎◌, true, false, Option, Some, None, List, length}
 use Rattle.std.specs.Option.{option_map}
 use Rattle.oct_def.specs.Table.{Matrix}
 use Rattle.oct_def.specs.Tight.{tight}
@@ -48,8 +48,9 @@ pub record WasBesideTarget (targets : List ℕ) (bs : List (List ℕ)) (vs : Lis
   pub before : IsIn (block bs number) shared
   pub after : IsIn vs shared
 
--- a mark is missing only where the tight closure changes a block's matrix, where a target is in the block, or where one was in
--- it before the added variables took the targets' places; the blocks before are those of the closed value
+-- a mark is missing only where the tight closure changes a block's matrix, where a target is in the block, or where one of its
+-- variables shared a block with a target before the added variables took the targets' places; the blocks before are those of
+-- the closed value
 pub record MarksAllButTargets (n : ℕ) (targets : List ℕ) (closed : Octagon) (r : Blocks) : Type 0 where
   pub before : Blocks
   pub kept : IsDecomposition (n + length targets) before

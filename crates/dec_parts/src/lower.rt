@@ -56,6 +56,7 @@ fn joined_by(
     for k in 0..bounds.len() {
         let bound = bounds[k];
         join_variables(&mut joined, bound.row / 2, bound.column / 2)?;
+        joined.known();
     }
     Ok(joined)
 }
@@ -92,16 +93,19 @@ fn take(m: &mut HalfBuf, members: &[u32], bound: OctBound)
     requires rows { length m.old ≡ 2 * length members.now }
     ensures { m.new ≡ with_taken members.now m.old bound }
 {
-    let count = members.len();
+    let count = m.vars() as usize;
     let row = place_of(members, bound.row / 2);
-    let column = place_of(members, bound.column / 2);
-    let inside = row < count && column < count;
-    if inside {
-        let i = 2 * row as u32 + bound.row % 2;
-        let j = 2 * column as u32 + bound.column % 2;
-        let old = m.get(i, j);
-        m.set(i, j, least_word(old, bound.word));
+    if row >= count {
+        return;
     }
+    let column = place_of(members, bound.column / 2);
+    if column >= count {
+        return;
+    }
+    let i = 2 * row as u32 + bound.row % 2;
+    let j = 2 * column as u32 + bound.column % 2;
+    let old = m.get(i, j);
+    m.set(i, j, least_word(old, bound.word));
 }
 
 // Takes each bound between members by minimum.

@@ -1,8 +1,11 @@
 // Added variables, the last ones, that take the places of others.
-ghost use Rattle.std.specs.Prelude.{◌≡◌, ℕ, ◌+◌, ◌<◌, ◌≤◌, IfOk, length};
+ghost use Rattle.std.specs.Prelude.{◌≡◌, ◌+◌, ◌<◌, ◌≤◌, IfOk, length};
+ghost use Rattle.std.specs.List.{All};
+ghost use Rattle.spl_core.specs.Facts.{AreDistinct};
 ghost use Rattle.dec_oct.specs.Value.{octagon};
+ghost use Rattle.dec_oct.specs.Cost.{TellsAgainOf};
 ghost use Rattle.transfer_def.specs.Dimensions.{moved_variable as moved_variable_of};
-ghost use Rattle.dec_parts.specs.Moving.{AreMovedOrigins, moved_value, KeepsOtherMarksOf};
+ghost use Rattle.dec_parts.specs.Moving.{AreMovedOrigins, moved_value, KeepsOtherMarksOf, MarksAllButTargetsOf};
 
 use crate::rename::renamed;
 use dec_oct::DecOct;
@@ -43,9 +46,11 @@ pub fn moved(alloc: Global, v: &DecOct, dims: u32, targets: &[u32]) -> Result<De
     requires dims { v.now.dims ≡ dims + length targets.now }
     ensures value { IfOk result (λ r. octagon r ≡ moved_value dims targets.now (octagon v.now)) }
     ensures marks { IfOk result (λ r. KeepsOtherMarksOf targets.now v.now.blocks r.blocks) }
+    ensures missing { IfOk result (λ r. AreDistinct targets.now → All (λ x. x < dims) targets.now → TellsAgainOf v.now.blocks → MarksAllButTargetsOf dims targets.now (octagon v.now) r.blocks) }
 {
     v.known();
     let origins = moved_origins(alloc, dims, targets)?;
     let r = renamed(alloc, v, &origins)?;
+    r.known();
     Ok(r)
 }

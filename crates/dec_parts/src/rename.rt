@@ -127,6 +127,7 @@ fn renamed_part(
     requires filled { 0 < length members.now }
     ensures { IfOk result (λ p. IfSome v.now.blocks (λ b. IsRenamedPart v.now.dims origins.now b members.now p.matrix p.settled)) }
 {
+    v.known();
     if keep_numbers(origins, members) {
         let part = kept_part(alloc, v, members)?;
         return Ok(part);
@@ -185,8 +186,10 @@ pub fn renamed(alloc: Global, v: &DecOct, origins: &[Option<u32>]) -> Result<Dec
         None => Ok(DecOct::bottom(origins.len() as u32)),
         Some(p) => {
             let made = renamed_partition(alloc, p, origins)?;
+            made.known();
             let parts = renamed_parts(alloc, v, origins, made)?;
             let r = DecOct::from_parts(alloc, parts)?;
+            r.known();
             Ok(r)
         }
     }

@@ -35,12 +35,12 @@ pub record IsListed (bounds : List OctBound) (i j : ℕ) : Type 0 where
 
 listed-some : (bounds : List OctBound) (i j : ℕ) → (listed bounds i j ≡ None → ⊥) → IsListed bounds i j
 listed-some [] i j h = absurd (h refl)
-listed-some (b ∷ bs) i j h = by (cases_Bool (is_at b i j))
+listed-some (b ∷ bs) i j h = by (λ g. listed-some bs i j g) (cases_Bool (is_at b i j))
   where
-    by : (is_at b i j ≡ true) ⊎ (is_at b i j ≡ false) → IsListed (b ∷ bs) i j
-    by (inl e) = let r = at-is b i j e in record { place = 0; within = omega arith; row = r.0; column = r.1 }
-    by (inr e) =
-        let s = listed-some bs i j (λ t. h (cond-false _ _ _ e ∙ t)) in
+    by : ((listed bs i j ≡ None → ⊥) → IsListed bs i j) → (is_at b i j ≡ true) ⊎ (is_at b i j ≡ false) → IsListed (b ∷ bs) i j
+    by rest (inl e) = let r = at-is b i j e in record { place = 0; within = omega arith; row = r.0; column = r.1 }
+    by rest (inr e) =
+        let s = rest (λ t. h (cond-false _ _ _ e ∙ t)) in
         record { place = suc s.place; within = let p = s.within in omega arith; row = s.row; column = s.column }
 
 either-finite : (a b : Bound) → (least a b ≡ None → ⊥) → (a ≡ None → ⊥) ⊎ (b ≡ None → ⊥)
@@ -58,7 +58,7 @@ touched-new : (n : ℕ) (e : Expression) (m : Matrix) (bounds : List OctBound) (
 touched-new n e m bounds vs size h = (there, back)
   where
     there : Touches bounds vs → IsNewlyTouched n e m vs
-    there (k, (p, t)) =
+    there (k, p, t) =
         let b = bound_in bounds k in
         let z = placed-in (length (extended_ranges n m)) bounds k h.placed p in
         let r = z.row in
@@ -78,7 +78,7 @@ touched-new n e m bounds vs size h = (there, back)
         let q = t.column_in in
         let f = subst (λ t. t ≡ None → ⊥) (sym (h.entries t.row t.column (omega (arith, size, p)) (omega (arith, size, q)))) (least-finite _ _ t.bound) in
         let s = listed-some bounds t.row t.column f in
-        (s.place, (s.within, side s t.touch))
+        (s.place, s.within, side s t.touch)
       where
         side : (s : IsListed bounds t.row t.column) → IsIn vs (t.row / 2) ⊎ IsIn vs (t.column / 2) → IsIn vs ((bound_in bounds s.place).row / 2) ⊎ IsIn vs ((bound_in bounds s.place).column / 2)
         side s (inl i) = inl (subst (λ z. IsIn vs (z / 2)) (sym s.row) i)

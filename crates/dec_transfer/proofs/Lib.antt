@@ -4,4 +4,6 @@ pub mod Restricting
 pub mod Conditions
 pub mod Tested
 pub mod Costs
+pub mod NewVariable
+pub mod Assigned
 pub mod Marked

@@ -5,17 +5,15 @@ use Rattle.oct_def.specs.Table.{Matrix}
 use Rattle.oct_def.specs.Matrix.{IsEvenMatrix}
 use Rattle.oct_def.specs.Tight.{tight}
 use Rattle.oct_def.specs.Octagon.{Octagon, IsValueOver, bottom_value, on_matrix}
-use Rattle.spl_core.specs.Expression.{Expression, Variable, IsOver}
+use Rattle.spl_core.specs.Expression.{Expression, Variable}
 use Rattle.interval_form.specs.declared.interval.Interval.{Interval}
-use Rattle.interval_form.specs.Interval.{unbounded, ranges_of, difference_of}
-use Rattle.interval_form.specs.Form.{Form, coefficient}
-use Rattle.interval_form.specs.Linear.{variable_form, linear_form, difference_form, difference_term, settled}
+use Rattle.interval_form.specs.Interval.{unbounded, ranges_of}
+use Rattle.interval_form.specs.Form.{Form}
+use Rattle.interval_form.specs.Linear.{variable_form, linear_form, difference_form}
 use Rattle.interval_form.specs.FormBounds.{bounded}
-use Rattle.interval_form.specs.Sparse.{Sparse, IsFormOver, form_in, term_at}
-use Rattle.interval_form.proofs.Forms.{coefficient-form_of, coefficient-form_of_past}
-use Rattle.interval_form.proofs.Merging.{term_at-past, terms_widened}
-use Rattle.interval_form.proofs.Dense.{same_form, constant-in}
+use Rattle.interval_form.specs.Sparse.{Sparse, IsFormOver, form_in}
 use Rattle.interval_form.proofs.Bounding.{length-ranges_of}
+use Rattle.interval_form.proofs.Wider.{length-extended_ranges, minus-new, new-minus}
 use Rattle.transfer_def.specs.Assign.{extended_ranges, form_minus_new, new_minus_form, equated, assigned, assign_value}
 use Rattle.transfer_def.specs.Forget.{forgotten, forget_value}
 use Rattle.transfer_def.specs.Dimensions.{extended_entry, extended, moved}
@@ -25,47 +23,7 @@ use Rattle.full_oct.specs.Value.{octagon_of}
 use Rattle.full_oct.specs.Formed.{equated_to, assigned_to}
 use Rattle.full_oct.proofs.Taking.{length-both}
 
--- ---- a form over n dimensions and the same form over more have the same coefficients
-
-coefficient-wider : (n k : ℕ) (s : Sparse) (v : ℕ) → IsFormOver n s → n ≤ k → coefficient (form_in k s) v ≡ coefficient (form_in n s) v
-unfolding form_in
-coefficient-wider n k s v h l =
-    ⊎_elim
-    (λ (p : v < n). coefficient-form_of k s.constant (term_at s.terms) v (omega arith) ∙ sym (coefficient-form_of n s.constant (term_at s.terms) v p))
-    (λ (p : n ≤ v). ⊎_elim
-    (λ (q : v < k). coefficient-form_of k s.constant (term_at s.terms) v q ∙ (term_at-past 0 n s.terms v h p ∙ sym (coefficient-form_of_past n s.constant (term_at s.terms) v p)))
-    (λ (q : k ≤ v). coefficient-form_of_past k s.constant (term_at s.terms) v q ∙ sym (coefficient-form_of_past n s.constant (term_at s.terms) v p))
-    (split v k))
-    (split v n)
-  where
-    split : (v n : ℕ) → (v < n) ⊎ (n ≤ v)
-    split v n = grind arith
-
-difference-same : (ranges : List Interval) (a b c d : Form) → a.constant ≡ c.constant → b.constant ≡ d.constant
-    → ((v : ℕ) → coefficient a v ≡ coefficient c v) → ((v : ℕ) → coefficient b v ≡ coefficient d v) → difference_form ranges a b ≡ difference_form ranges c d
-unfolding difference_form difference_term
-difference-same ranges a b c d p q e f =
-    ap (settled ranges) (same_form (length ranges) (difference_of a.constant b.constant) (difference_of c.constant d.constant) (difference_term a b) (difference_term c d) (rw (p, q) refl) (λ v l. rw (e v, f v) refl))
-
-wider-left : (n : ℕ) (ranges : List Interval) (s : Sparse) (b : Form) → IsFormOver n s → n ≤ length ranges → difference_form ranges (form_in (length ranges) s) b ≡ difference_form ranges (form_in n s) b
-wider-left n ranges s b h l =
-    difference-same ranges (form_in (length ranges) s) b (form_in n s) b (constant-in (length ranges) s ∙ sym (constant-in n s)) refl (λ v. coefficient-wider n (length ranges) s v h l) (λ v. refl)
-
-wider-right : (n : ℕ) (ranges : List Interval) (a : Form) (s : Sparse) → IsFormOver n s → n ≤ length ranges → difference_form ranges a (form_in (length ranges) s) ≡ difference_form ranges a (form_in n s)
-wider-right n ranges a s h l =
-    difference-same ranges a (form_in (length ranges) s) a (form_in n s) refl (constant-in (length ranges) s ∙ sym (constant-in n s)) (λ v. refl) (λ v. coefficient-wider n (length ranges) s v h l)
-
 -- ---- the matrix with a new variable
-
-pub length-extended_ranges : (n : ℕ) (m : Matrix) (ranges : List Interval) → ranges ≡ ranges_of n m ++ unbounded ∷ [] → length ranges ≡ n + 1
-length-extended_ranges n m ranges e = ap length e ∙ (length-append (ranges_of n m) (unbounded ∷ []) ∙ ap (λ k. k + 1) (length-ranges_of n m))
-
--- a form over n dimensions is one over the new variable too
-pub over-new : (n : ℕ) (m : Matrix) (ranges : List Interval) (s : Sparse) → ranges ≡ ranges_of n m ++ unbounded ∷ [] → IsFormOver n s → IsFormOver (length ranges) s
-over-new n m ranges s e h = let l = length-extended_ranges n m ranges e in terms_widened 0 n (length ranges) s.terms h (omega arith)
-
-pub new-below : (n : ℕ) (m : Matrix) (ranges : List Interval) → ranges ≡ ranges_of n m ++ unbounded ∷ [] → n < length ranges
-new-below n m ranges e = let l = length-extended_ranges n m ranges e in omega arith
 
 pub rows-wider : (n : ℕ) (m : Matrix) (ranges : List Interval) (rows : ℕ) → ranges ≡ ranges_of n m ++ unbounded ∷ [] → rows ≡ 2 * (n + 1) → rows ≡ 2 * length ranges
 rows-wider n m ranges rows e h = let l = length-extended_ranges n m ranges e in omega arith
@@ -83,11 +41,8 @@ pub equated-is : (n : ℕ) (m w : Matrix) (ranges : List Interval) (s t below ab
 unfolding extended_ranges
 equated-is n m w ranges s t below above e h v x b a =
     let l = length-extended_ranges n m ranges e in
-    let new : form_in (length ranges) t ≡ variable_form (n + 1) n = v (length ranges) ∙ ap (λ k. variable_form k n) l in
-    let first : form_in (length ranges) below ≡ difference_form ranges (form_in n s) (variable_form (n + 1) n) =
-    b ∙ (wider-left n ranges s (form_in (length ranges) t) h (omega arith) ∙ ap (difference_form ranges (form_in n s)) new) in
-    let second : form_in (length ranges) above ≡ difference_form ranges (variable_form (n + 1) n) (form_in n s) =
-    a ∙ (wider-right n ranges (form_in (length ranges) t) s h (omega arith) ∙ ap (λ (f : Form). difference_form ranges f (form_in n s)) new) in
+    let first : form_in (length ranges) below ≡ difference_form ranges (form_in n s) (variable_form (n + 1) n) = b ∙ minus-new n ranges s t l h v in
+    let second : form_in (length ranges) above ≡ difference_form ranges (variable_form (n + 1) n) (form_in n s) = a ∙ new-minus n ranges s t l h v in
     rw (first, second, x) (ap (λ (r : List Interval).
     option_and_then (bounded r (difference_form r (variable_form (n + 1) n) (form_in n s))) (bounded r (difference_form r (form_in n s) (variable_form (n + 1) n)) (extended n 1 m))) e)
 
@@ -108,12 +63,6 @@ moved-some n x f m k after e h = h ∙ ap (λ (r : Option Matrix). option_map (m
 assigned-formed : (n x : ℕ) (e : Expression) (m : Matrix) (f : Form) → f ≡ linear_form (ranges_of n m) e → assigned_to n x f m ≡ assigned n x e m
 unfolding assigned equated form_minus_new new_minus_form
 assigned-formed n x e m f h = ap (λ (g : Form). assigned_to n x g m) h
-
-pub over-ranges : (n : ℕ) (m : Matrix) (ranges : List Interval) (e : Expression) → ranges ≡ ranges_of n m → IsOver n e → IsOver (length ranges) e
-over-ranges n m ranges e q h = subst (λ k. IsOver k e) (sym (ap length q ∙ length-ranges_of n m)) h
-
-pub form-over : (n : ℕ) (m : Matrix) (ranges : List Interval) (s : Sparse) → ranges ≡ ranges_of n m → IsFormOver (length ranges) s → IsFormOver n s
-form-over n m ranges s q h = subst (λ k. IsFormOver k s) (ap length q ∙ length-ranges_of n m) h
 
 pub assigned-is : (n x : ℕ) (e : Expression) (m : Matrix) (ranges : List Interval) (s : Sparse) (after : Option Matrix) → ranges ≡ ranges_of n m
     → form_in (length ranges) s ≡ linear_form ranges e → after ≡ assigned_to n x (form_in n s) m → after ≡ assigned n x e m

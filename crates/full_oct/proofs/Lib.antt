@@ -6,6 +6,5 @@ pub mod Entering
 pub mod Adding
 pub mod Values
 pub mod Taking
-pub mod Ranging
 pub mod Forming
 pub mod Testing

@@ -48,7 +48,7 @@ none-at r c i j = by (cond (nat_eq r i) (nat_eq c j) false)
     by true = refl
     by false = refl
 
-listed-append : (xs ys : List OctBound) (i j : ℕ) → listed (xs ++ ys) i j ≡ least (listed xs i j) (listed ys i j)
+pub listed-append : (xs ys : List OctBound) (i j : ℕ) → listed (xs ++ ys) i j ≡ least (listed xs i j) (listed ys i j)
 listed-append [] ys i j = refl
 listed-append (x ∷ xs) ys i j = by (is_at x i j) (listed-append xs ys i j)
   where

@@ -42,5 +42,5 @@ returns c =
     let rows : rows_of (found_of m) ≡ matches_of (app_of c.in_ok-parser.parser) words = (c.in-Ok.ensures.matches (ap is_simple same ∙ only-simple)).0 in
     let got = taken-call words (app_of c.in_ok-parser.parser) (found_of m) c.requires same none rows in
     let file_is : Some c.in-Some.file.now ≡ first_value (found_of m) (codes "file") = ap (option_map (λ (s : Bor (List ℕ)). s.now)) (sym c.in-Some.is) ∙ c.get_str.ensures in
-    present-call words (found_of m) (given_view (record { delay = c.get_str-in-Some.result; descend = c.get_str-in-Some-2.result; full = c.get_flag.result; file = c.in-Some.file })) got
-    c.get_str-in-Some.ensures c.get_str-in-Some-2.ensures file_is c.get_flag.ensures.value c.get_flag.ensures.other
+    present-call words (found_of m) (given_view (record { delay = c.get_str-in-Some.result; descend = c.get_str-in-Some-2.result; full = c.get_flag.result; domain = c.get_str-in-Some-3.result; file = c.in-Some.file })) got
+    c.get_str-in-Some.ensures c.get_str-in-Some-2.ensures c.get_str-in-Some-3.ensures file_is c.get_flag.ensures.value c.get_flag.ensures.other

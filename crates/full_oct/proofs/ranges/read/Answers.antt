@@ -1,5 +1,5 @@
 use Rattle.std.proofs.Common.{◌∙◌}
-use Rattle.full_oct.proofs.Ranging.{ranges-none, range-pushed}
+use Rattle.interval_form.proofs.Ranging.{ranges-none, range-pushed}
 use Rattle.full_oct.proofs.ranges.read.Goals as goal
 
 pub variables-init : goal.variables-init

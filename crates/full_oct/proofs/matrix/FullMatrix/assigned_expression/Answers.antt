@@ -1,5 +1,6 @@
 use Rattle.spl_core.specs.Graph.{expr_at, exprs_in}
-use Rattle.full_oct.proofs.Forming.{over-ranges, form-over, assigned-is}
+use Rattle.interval_form.proofs.Wider.{over-ranges, form-over}
+use Rattle.full_oct.proofs.Forming.{assigned-is}
 use Rattle.full_oct.proofs.matrix.FullMatrix.assigned_expression.Goals as goal
 
 pub linearise-requires-clause-over : goal.linearise-requires-clause-over

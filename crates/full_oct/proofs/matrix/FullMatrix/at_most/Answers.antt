@@ -1,7 +1,7 @@
 use Rattle.std.proofs.Common.{length}
 use Rattle.spl_core.specs.Graph.{expr_at, exprs_in}
 use Rattle.interval_form.specs.Sparse.{form_in}
-use Rattle.full_oct.proofs.Forming.{over-ranges}
+use Rattle.interval_form.proofs.Wider.{over-ranges}
 use Rattle.full_oct.proofs.Testing.{rows-ranges, at_most-is}
 use Rattle.full_oct.proofs.matrix.FullMatrix.at_most.Goals as goal
 

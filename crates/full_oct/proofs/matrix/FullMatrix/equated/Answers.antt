@@ -1,5 +1,6 @@
 use Rattle.std.proofs.Common.{◌∙◌, length}
-use Rattle.full_oct.proofs.Forming.{over-new, new-below, rows-wider, rows-extended, equated-is}
+use Rattle.interval_form.proofs.Wider.{over-new, new-below}
+use Rattle.full_oct.proofs.Forming.{rows-wider, rows-extended, equated-is}
 use Rattle.full_oct.proofs.matrix.FullMatrix.equated.Goals as goal
 
 pub minus-requires-clause-left : goal.minus-requires-clause-left

@@ -1,0 +1,7 @@
+use Rattle.transfer_def.specs.Back.{back_value}
+use Rattle.dec_domain.proofs.Sizes.{kept-size}
+use Rattle.dec_domain.proofs.decomposed.DecDomainDomain.back.Goals as goal
+
+pub kept-requires : goal.kept-requires
+unfolding back_value
+kept-requires c = record { small = kept-size c.in_ok-w.w _ c.in_ok-w.ensures.value c.caller.invariant.small }

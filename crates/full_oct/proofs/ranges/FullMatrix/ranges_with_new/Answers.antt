@@ -1,5 +1,0 @@
-use Rattle.full_oct.proofs.Ranging.{few-more}
-use Rattle.full_oct.proofs.ranges.FullMatrix.ranges_with_new.Goals as goal
-
-pub of-requires-few : goal.of-requires-few
-of-requires-few c = few-more c.args.dims c.args.self.now c.in_ok-ranges.ranges.items c.push.new.self.items _ c.in_ok-ranges.ensures c.requires.small c.in_ok-push.ensures.items
