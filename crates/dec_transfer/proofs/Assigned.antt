@@ -129,8 +129,7 @@ is-moved n x e (Some a) bounds old new r p kept b c =
     let k = lowered_matrix (n + 1) bounds (whole (n + 1) a) in
     let some = equated-some n e a bounds kept b in
     let off = off-diagonal (extended_ranges n m) (form_minus_new n m e) (new_minus_form n m e) bounds b in
-    let closed : octagon c.closed ≡ octagon_of (n + 1) (tight k) = c.value ∙ ap (λ t. octagon_of (n + 1) (tight t)) c.lowered.same in
-    (
+    let closed : octagon c.closed ≡ octagon_of (n + 1) (tight k) = c.value ∙ ap (λ t. octagon_of (n + 1) (tight t)) c.lowered.same in (
       c.moved ∙ ap (moved_value n (x ∷ [])) closed ∙ value-of n x e a (Some k) some,
       subst (λ z. AssignCountOf n e a z old new) (sym some) (assign-count n e a c.before k bounds c.closed old new (new-ranges n m) b off c.lowered refl c.kept c.value c.cost),
       subst (λ z. AssignMarksOf n x z r.blocks) (sym some) (subst (λ t. MarksAllButTargetsOf n (x ∷ []) t r.blocks) closed c.marks),

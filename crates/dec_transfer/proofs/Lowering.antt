@@ -81,4 +81,3 @@ lists-both ranges f g xs ys zs h k e = subst (ListsBoth ranges f g) (sym e) (rec
   placed = All-append (IsPlaced (length ranges)) xs ys h.placed k.placed;
   entries = λ i j p q. listed-append xs ys i j ∙ ap (λ t. least t (listed ys i j)) (h.entries i j p q) ∙ ap (least (form_entry ranges f i j)) (k.entries i j p q);
 })
-
