@@ -25,9 +25,6 @@ use Rattle.transfer_def.proofs.Tests.{dims-test_value}
 
 -- ---- forms
 
-pub two_forms : (ranges : List Interval) (a b x y : Form) → a ≡ x → b ≡ y → difference_form ranges a b ≡ difference_form ranges x y
-two_forms ranges a b x y p q = rw (p, q) refl
-
 -- minus the constant -1 is plus the constant 1
 minus_one : (n : ℕ) (v : ℕ) → v < n → coefficient (constant_form n (point (negsuc 0))) v ≡ nothing
 unfolding constant_form no_terms
@@ -103,7 +100,7 @@ different-is a b v x y z e f h = h ∙ (ap (λ (t : Octagon). join_value t y) e 
 
 -- ---- the parts of a condition
 
-pub condition_node : (c : Parts) → NumbersStandForNodes → IsCore c → (k : ℕ) (x : CoreCond) → k < length c.conds → x ≡ get_or c.conds k x → cond_over (exprs_in c) (conds_in c) x ≡ cond_at (conds_in c) k
+condition_node : (c : Parts) → NumbersStandForNodes → IsCore c → (k : ℕ) (x : CoreCond) → k < length c.conds → x ≡ get_or c.conds k x → cond_over (exprs_in c) (conds_in c) x ≡ cond_at (conds_in c) k
 condition_node c law w k x l h = ap (cond_over (exprs_in c) (conds_in c)) h ∙ sym ((law c w).cond k x l)
 
 pub condition_fits : (c : Parts) → IsCore c → (k : ℕ) (x : CoreCond) → k < length c.conds → x ≡ get_or c.conds k x → CondFits c k x
