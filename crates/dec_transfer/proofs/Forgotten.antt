@@ -1,6 +1,6 @@
 -- A random assignment is a renaming in which the target is new.
-use Rattle.std.proofs.Common.{◌≡◌, ℕ, ◌*◌, ◌/◌, ◌%◌, ◌+◌, ◌<◌, ◌⊎◌, inl, inr, Bool, true, false, List, length, Option, Some, None, refl, sym, ap, ◌∙◌, subst, arith}
-use Rattle.std.specs.Prelude.{nat_eq, pos, ◌||◌, ◌≤◌}
+use Rattle.std.proofs.Common.{◌≡◌, ℕ, ◌*◌, ◌/◌, ◌%◌, ◌+◌, ◌<◌, ◌⊎◌, inl, inr, List, length, Option, Some, None, refl, sym, ap, ◌∙◌, subst, arith}
+use Rattle.std.specs.Prelude.{◌≤◌}
 use Rattle.std.specs.Option.{option_map}
 use Rattle.std.proofs.lemmas.Bool.{cases_eq, cases_lt, cond-true, cond-false, eq-eqb, ne_eqb}
 use Rattle.std.proofs.lemmas.List.{get_or_past}
@@ -8,13 +8,12 @@ use Rattle.oct_def.specs.Table.{Matrix, table, at}
 use Rattle.oct_def.specs.Matrix.{IsEvenMatrix}
 use Rattle.oct_def.specs.Octagon.{top_entry}
 use Rattle.oct_def.proofs.Tables.{at-table, length-table, table-same}
-use Rattle.block_partition.specs.Partition.{member, block, home, IsIn, IsBlock}
+use Rattle.block_partition.specs.Partition.{member, block, home, IsBlock}
 use Rattle.block_laws.specs.Components.{Joins, Linked, One, More}
 use Rattle.block_laws.proofs.Assembly.{top_entry-off, top_entry-on}
 use Rattle.transfer_def.specs.Forget.{forgotten_entry, forgotten, forget_value}
 use Rattle.dec_oct.specs.Value.{Blocks, whole, Decomposed, decomposed, octagon, octagon_of, IsDecomposition, IsKeptBlocks, IsKept}
-use Rattle.dec_oct.specs.Cost.{IsMarkedBlock}
-use Rattle.dec_parts.specs.Rename.{origin, renamed_entry, renamed_matrix, renamed_value, AreOrigins, AreUnmoved, KeepsOwnMarks, KeepsOwnMarksOf}
+use Rattle.dec_parts.specs.Rename.{origin, renamed_entry, renamed_matrix, renamed_value, AreUnmoved, KeepsOwnMarks, KeepsOwnMarksOf}
 use Rattle.dec_parts.proofs.Renaming.{dimension-old, dimension-new, renamed-same, renamed-old, renamed-new_row, renamed-new_column}
 use Rattle.dec_transfer.specs.Forgotten.{AreOthers, KeepsUntouched, KeepsUntouchedOf}
 
