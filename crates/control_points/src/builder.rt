@@ -1,13 +1,13 @@
 //! A core that is being built: edges, fails and points, added one after the other.
 
-ghost use Rattle.std.specs.Prelude.{◌≡◌, ◌<◌, ◌≤◌, ◌+◌, ◌-◌, ◌*◌, ◌%◌, ◌++◌, ◌∷◌, ◌^◌, [], ℕ, length, drop, IfOk, OnOk};
+ghost use Rattle.std.specs.Prelude.{◌≡◌, ◌<◌, ◌≤◌, ◌+◌, ◌-◌, ◌*◌, ◌%◌, ◌++◌, ◌∷◌, ◌^◌, [], length, drop, IfOk};
 ghost use Rattle.spl_tree.specs.Facts.{HasNames};
 ghost use Rattle.spl_tree.specs.Meaning.{exprs_in as trees_in, expr_at as tree_at, named_in, names_over};
 ghost use Rattle.spl_core.specs.Limits.{most_items};
 ghost use Rattle.spl_core.specs.Parts.{span_dims};
 ghost use Rattle.spl_core.specs.Graph.{pairs_in, move_of, graph_of};
 ghost use Rattle.control_points.specs.CoreOf.{arc, dimensions_in};
-ghost use Rattle.control_points.specs.Nodes.{IsMade, Grows};
+ghost use Rattle.control_points.specs.Nodes.{IsMade};
 ghost use Rattle.spl_core.specs.GraphFacts.{IsGraph, ActionIsIn, SpanIsIn};
 ghost use Rattle.control_points.specs.Building.{Adds, Lengthens, IsSmall, HasFew, CanMake, MakesMore, SameNodes, SpansStay, arcs_in};
 ghost use Rattle.control_points.specs.Emitting.{copies_named};

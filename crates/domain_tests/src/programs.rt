@@ -64,13 +64,14 @@ impl Writer {
         self.variable()
     }
 
-    /// A number: atoms with signs between them.
+    /// A number: at most three atoms with signs between them, mostly one.
     fn number(&mut self) -> Result<(), AllocError> {
         if self.choose(6) == 0 {
             self.put("-")?;
         }
         self.atom()?;
-        for _ in 0..self.choose(3) {
+        let more = self.choose(5) / 2;
+        for _ in 0..more {
             match self.choose(6) {
                 0 => self.put(" * ")?,
                 1 => self.put(" - ")?,
@@ -140,6 +141,34 @@ impl Writer {
         self.put(";\n")
     }
 
+    /// A bound of a variable, or of the sum or difference of two, that 0 meets.
+    fn bound(&mut self) -> Result<(), AllocError> {
+        self.variable()?;
+        match self.choose(3) {
+            0 => self.put(" + ")?,
+            1 => self.put(" - ")?,
+            _ => self.put(" + 0 * ")?,
+        }
+        self.variable()?;
+        match self.choose(2) {
+            0 => self.put(" <= ")?,
+            _ => self.put(" >= -")?,
+        }
+        let k = self.choose(8);
+        self.put(CONSTANTS[k as usize])
+    }
+
+    /// The assumption of three bounds.
+    fn bounds(&mut self) -> Result<(), AllocError> {
+        self.put("assume ")?;
+        self.bound()?;
+        self.put(" and ")?;
+        self.bound()?;
+        self.put(" and ")?;
+        self.bound()?;
+        self.put(";\n")
+    }
+
     fn simple(&mut self) -> Result<(), AllocError> {
         match self.choose(6) {
             0 => self.assumption(),
@@ -202,7 +231,10 @@ impl Writer {
     pub(crate) fn assumptions(mut self, count: u32) -> Result<String, AllocError> {
         self.put(VARIABLES)?;
         for _ in 0..count {
-            self.assumption()?;
+            match self.choose(4) {
+                0 => self.assumption()?,
+                _ => self.bounds()?,
+            }
         }
         self.put("end\n")?;
         Ok(self.text)

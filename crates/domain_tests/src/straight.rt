@@ -81,11 +81,7 @@ pub(crate) fn after<D: Domain>(
 }
 
 /// The value at the end of main's body, which is straight.
-pub(crate) fn at_end<D: Domain>(
-    alloc: Global,
-    dom: &mut D,
-    core: &Core,
-) -> Result<D::V, NoMemory>
+pub(crate) fn at_end<D: Domain>(alloc: Global, dom: &mut D, core: &Core) -> Result<D::V, NoMemory>
     ensures dims { IfOk result (λ r. (D.meaning r).dims ≡ (proc_at core.now (length core.now.procs - 1)).dims) }
 {
     let main = core.procs() - 1;

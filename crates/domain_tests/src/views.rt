@@ -52,12 +52,7 @@ pub(crate) fn view<D: Domain>(
 }
 
 /// Asserts that there are as many views on both sides, each the same. The result is how many aren't Bottom.
-pub(crate) fn expect_same(
-    rt: &impl Abort,
-    first: &[String],
-    second: &[String],
-    name: &str,
-) -> u64 {
+pub(crate) fn expect_same(rt: &impl Abort, first: &[String], second: &[String], name: &str) -> u64 {
     assert!(rt; first.len() == second.len(), "the views of {name}");
     let mut values = 0_u64;
     for k in 0..first.len() {

@@ -20,7 +20,7 @@ use Rattle.generated_program.specs.ProgramOf.{program}
 use Rattle.generated_program.specs.Accepted.{IsAcceptedAs, GeneratedTextIsAccepted, GeneratedProgramHasPoints}
 use Rattle.interproc_top.specs.Accepted.{IsTokenized, IsParsed, IsAccepted}
 use Rattle.interproc_top.specs.Analysis.{usual}
-use Rattle.interproc_top.specs.Bench.{AreFiguresOf, IsBenchOf, figure_line, figures_text, found_last}
+use Rattle.interproc_top.specs.Bench.{AreFiguresOf, IsBenchWith, figure_line, figures_text, found_last}
 use Rattle.interproc_top.specs.Reported.{Refuses}
 use Rattle.interproc_top.specs.declared.analysis.Options.{Options}
 use Rattle.interproc_top.specs.declared.bench.Figures.{Figures}
@@ -60,8 +60,9 @@ module _ (one : OneReading) (accepted : GeneratedTextIsAccepted) (n : ℕ) (byte
   generated-stands c h = accepted-stands one (generated n) shown.reads.program c (record { parsed = is-parsed; kept = shown.kept }) (subst (λ b. Refuses b c) text h)
 
 -- the figures of an accepted program of the text are those that are asked for
-pub bench-of : (n : ℕ) (bytes written : List ℕ) (p : Program) (f : Figures) → bytes ≡ generated n → IsAccepted bytes p → AreFiguresOf n p f → written ≡ figures_text f → IsBenchOf n written
-bench-of n bytes written p f text is measured e = record { program = p; accepted = subst (λ b. IsAccepted b p) text is; figures = f; measured = measured; written = e }
+pub bench-with : (n relaxed : ℕ) (bytes written : List ℕ) (p : Program) (f : Figures) → bytes ≡ generated n → IsAccepted bytes p → AreFiguresOf n relaxed p f → written ≡ figures_text f
+    → IsBenchWith n relaxed written
+bench-with n relaxed bytes written p f text is measured e = record { program = p; accepted = subst (λ b. IsAccepted b p) text is; figures = f; measured = measured; written = e }
 
 -- ---- main's exit
 
@@ -108,12 +109,12 @@ exit-dims sized c s delay descend n main v is solved count e read =
 abbrev last-read : Options → Graph → Octagon
 last-read o g = read_of g o.delay o.descend (proc_of g (main_of g)).exit
 
-pub figures-are : (number : ℕ) (p : Program) (c : Parts) (s : Solution) (o : Options) (n : ℕ) (main : Proc) (v : Octagon) (blocks : List (List ℕ)) (points rounds count most : ℕ)
+pub figures-are : (number relaxed rows : ℕ) (p : Program) (c : Parts) (s : Solution) (o : Options) (n : ℕ) (main : Proc) (v : Octagon) (blocks : List (List ℕ)) (points rounds count most : ℕ)
     → IsCore c → graph_of c ≡ core_of p → o ≡ usual → IsSolution (graph_of c) o.delay o.descend s
     → n ≡ length c.procs → main ≡ proc_at c (n - 1) → v ≡ read_in s main.exit → AreComponentsOf v blocks → length (core_of p).owners ≡ 5 * number + 4
-    → points ≡ length c.owners → rounds ≡ s.rounds → count ≡ length blocks → IsGreatestSize blocks most
-    → AreFiguresOf number p (record { variables = 3 * number; points = points; rounds = rounds; blocks = count; largest = most; rows = 0 })
-figures-are number p c s o n main v blocks points rounds count most is graph options solved procs e read exact owners points-is rounds-is count-is most-is =
+    → points ≡ length c.owners → rounds ≡ s.rounds → count ≡ length blocks → IsGreatestSize blocks most → rows ≡ relaxed
+    → AreFiguresOf number relaxed p (record { variables = 3 * number; points = points; rounds = rounds; blocks = count; largest = most; rows = rows })
+figures-are number relaxed rows p c s o n main v blocks points rounds count most is graph options solved procs e read exact owners points-is rounds-is count-is most-is rows-is =
     let q = proc_of (graph_of c) (main_of (graph_of c)) in
     let same : main ≡ q = main-is c n main procs e in
     let at_exit : v ≡ last-read o (graph_of c) = read ∙ ap (λ (r : Proc). read_in s r.exit) same ∙ solved.read q.exit (exit-is-in c is) in
@@ -127,7 +128,7 @@ figures-are number p c s o n main v blocks points rounds count most is graph opt
       exact = subst (λ (w : Octagon). AreComponentsOf w blocks) value exact;
       blocks = count-is;
       largest = most-is;
-      rows = refl;
+      rows = rows-is;
     }
 
 -- ---- their lines

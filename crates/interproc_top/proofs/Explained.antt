@@ -25,7 +25,7 @@ module _ (c : Cause) (withheld : (r : Reading) (name : List ℕ) → Withholds r
       by (inr (bytes, read, s)) = spoiled h.program bytes s
 
   never : (r : Reading) (asked : Asked) → Stops r asked c → ⊥
-  never r (Analyse delay descend full file) h = no_program r file h
+  never r (Analyse delay descend full domain file) h = no_program r file h
   never r (Bench n) h = memory h
   never r (Replay file choices) (inl h) = no_program r file h
   never r (Replay file choices) (inr h) = no_run r file choices h

@@ -17,6 +17,7 @@ use Rattle.spl_runs.specs.Runs.{Stack}
 use Rattle.run_text.specs.Text.{run_text}
 use Rattle.control_points.specs.CoreOf.{core_of}
 use Rattle.command_words.specs.Command.{Asked, Analyse, Bench, Replay, asked_of}
+use Rattle.command_words.specs.declared.domain_name.DomainName.{DomainName}
 use Rattle.interproc_top.specs.Accepted.{IsTokenized, IsParsed, IsAccepted, BreaksAt}
 use Rattle.interproc_top.specs.Analysis.{report_on, verdict_on}
 use Rattle.interproc_top.specs.Bench.{IsBenchOf}
@@ -206,12 +207,12 @@ module _ (one : OneReading) (call : Call) (fair : IsFair call) (file bytes : Lis
       let e = read_held call fair file bytes read held r in
       accepted-stands one bytes p c is (subst (λ b. Refuses b c) e h)
 
-reported : OneReading → (end : End) (call : Call) → Ends end call → (fair : IsFair call) (delay descend : ℕ) (full : Bool) (file bytes : List ℕ) (p : Program)
-    → Asks call (Analyse delay descend full file) → Holds call fair file bytes → Writes call → length bytes ≤ most_bytes → IsAccepted bytes p
+reported : OneReading → (end : End) (call : Call) → Ends end call → (fair : IsFair call) (delay descend : ℕ) (full : Bool) (domain : DomainName) (file bytes : List ℕ) (p : Program)
+    → Asks call (Analyse delay descend full domain file) → Holds call fair file bytes → Writes call → length bytes ≤ most_bytes → IsAccepted bytes p
     → AnswersWith (status_at end) call (status_by (verdict_on (options delay descend full) p)) (report_on (options delay descend full) bytes p)
-reported one end call ends fair delay descend full file bytes p asks held writes short is =
+reported one end call ends fair delay descend full domain file bytes p asks held writes short is =
     let o = options delay descend full in
-    given end call (Analyse delay descend full file) (status_by (verdict_on o p)) (report_on o bytes p) ends asks writes
+    given end call (Analyse delay descend full domain file) (status_by (verdict_on o p)) (report_on o bytes p) ends asks writes
     (report-output one call fair file bytes held p is o) (program-known one call fair file bytes held p is short)
 
 -- ---- a bench
@@ -233,7 +234,7 @@ measured (Err c) call ends n asks writes = by c (why c call ends)
 -- ---- a file that is no accepted program
 
 program-output : (files : Told) (asked : Asked) (file text : List ℕ) (answer : Status) → program_asked asked ≡ Some file → IsOutput files asked text answer → (p : Program) × IsProgram files file p
-program-output files (Analyse delay descend full name) file text answer e out =
+program-output files (Analyse delay descend full domain name) file text answer e out =
     let same : name ≡ file = cc e in
     (out.report.program, subst (λ n. IsProgram files n out.report.program) same (record { bytes = out.bytes; read = out.read; accepted = out.report.accepted }))
 program-output files (Bench n) file text answer e out = absurd (cc e)
@@ -243,7 +244,7 @@ program-output files (Replay name choices) file text answer e out =
 
 program-stops : (r : Reading) (asked : Asked) (file : List ℕ) (c : Cause) → program_asked asked ≡ Some file → Stops r asked c
     → StopsProgram r file c ⊎ ((p : Program) × IsProgram r.files file p)
-program-stops r (Analyse delay descend full name) file c e h =
+program-stops r (Analyse delay descend full domain name) file c e h =
     let same : name ≡ file = cc e in
     inl (subst (λ n. StopsProgram r n c) same h)
 program-stops r (Bench n) file c e h = absurd (cc e)
@@ -364,7 +365,7 @@ no_usage_of_run true e = cc e
 no_usage_of_run false e = cc e
 
 no_usage : (files : Told) (asked : Asked) (text : List ℕ) (answer : Status) → IsOutput files asked text answer → answer ≡ status.Usage → ⊥
-no_usage files (Analyse delay descend full file) text answer out e = no_usage_by out.verdict (sym out.decided ∙ e)
+no_usage files (Analyse delay descend full domain file) text answer out e = no_usage_by out.verdict (sym out.decided ∙ e)
 no_usage files (Bench n) text answer out e = cc (out.1, e)
 no_usage files (Replay file choices) text answer out e = no_usage_of_run (is_fail out.program (last_point out.run.tops)) (sym out.run.decided ∙ e)
 

@@ -1,4 +1,4 @@
--- The analysis of an accepted program, and the report on it: full matrices, with the options of the call.
+-- The analysis of an accepted program, and the report on it, with the options of the call. The domain makes no difference.
 use Rattle.std.specs.Prelude.{ℕ, false, List, if◌then◌else◌}
 use Rattle.oct_def.specs.Octagon.{Octagon}
 use Rattle.spl_tree.specs.Program.{Program}

@@ -15,9 +15,9 @@ use Rattle.interproc_top.specs.declared.bench.Figures.{Figures}
 abbrev pub found_last : Program → Octagon
 found_last p = found usual p (proc_of (core_of p) (main_of (core_of p))).exit
 
--- the figures of the program with this number: the blocks are the components of the value at main's exit. Full matrices
--- have no rows to count
-pub record AreFiguresOf (n : ℕ) (p : Program) (f : Figures) : Type 0 where
+-- the figures of the program with this number: the blocks are the components of the value at main's exit, and so many rows
+-- were relaxed
+pub record AreFiguresOf (n relaxed : ℕ) (p : Program) (f : Figures) : Type 0 where
   pub variables : f.variables ≡ 3 * n
   pub points : f.points ≡ 5 * n + 4
   pub rounds : f.rounds ≡ rounds_of (core_of p) usual.delay
@@ -25,7 +25,7 @@ pub record AreFiguresOf (n : ℕ) (p : Program) (f : Figures) : Type 0 where
   pub exact : AreComponentsOf (found_last p) components
   pub blocks : f.blocks ≡ length components
   pub largest : IsGreatestSize components f.largest
-  pub rows : f.rows ≡ 0
+  pub rows : f.rows ≡ relaxed
 
 abbrev pub figure_line : List ℕ → ℕ → List ℕ
 figure_line name figure = name ++ (codes " " ++ (decimal figure ++ codes "\n"))
@@ -37,10 +37,14 @@ figures_text f =
     ++ (figure_line (codes "rounds") f.rounds
     ++ (figure_line (codes "blocks") f.blocks ++ (figure_line (codes "largest") f.largest ++ figure_line (codes "rows") f.rows))))
 
--- the text has the figures of the program with this number
-pub record IsBenchOf (n : ℕ) (text : List ℕ) : Type 0 where
+-- the text has the figures of the program with this number and so many rows
+pub record IsBenchWith (n relaxed : ℕ) (text : List ℕ) : Type 0 where
   pub program : Program
   pub accepted : IsAccepted (generated n) program
   pub figures : Figures
-  pub measured : AreFiguresOf n program figures
+  pub measured : AreFiguresOf n relaxed program figures
   pub written : text ≡ figures_text figures
+
+-- the text has the figures of the program with this number
+abbrev pub IsBenchOf : ℕ → List ℕ → Type 0
+IsBenchOf n text = (relaxed : ℕ) × IsBenchWith n relaxed text

@@ -13,6 +13,7 @@ use Rattle.spl_runs.specs.Runs.{Stack}
 use Rattle.run_text.specs.Text.{run_text}
 use Rattle.control_points.specs.CoreOf.{core_of}
 use Rattle.command_words.specs.Command.{Asked, Analyse, Bench, Replay, asked_of}
+use Rattle.command_words.specs.declared.domain_name.DomainName.{DomainName}
 use Rattle.interproc_top.specs.Accepted.{IsAccepted, BreaksAt}
 use Rattle.interproc_top.specs.Analysis.{report_on, verdict_on}
 use Rattle.interproc_top.specs.Bench.{IsBenchOf}
@@ -130,7 +131,7 @@ AnswersWith answer call wanted text = ((answer ≡ wanted) × Appends call.out_b
 
 -- the words ask for a program's file: as the first that is opened
 abbrev pub program_asked : Asked → Option (List ℕ)
-program_asked (Analyse delay descend full file) = Some file
+program_asked (Analyse delay descend full domain file) = Some file
 program_asked (Bench n) = None
 program_asked (Replay file choices) = Some file
 
@@ -155,7 +156,7 @@ pub record AsksRun (call : Call) (fair : IsFair call) (p : Program) (choices : L
 
 pub record Completes (answer : Status) (call : Call) : Type 0 where
   -- an accepted program gets its whole report
-  pub reported : (fair : IsFair call) (delay descend : ℕ) (full : Bool) (file bytes : List ℕ) (p : Program) → Asks call (Analyse delay descend full file) → Holds call fair file bytes → Writes call
+  pub reported : (fair : IsFair call) (delay descend : ℕ) (full : Bool) (domain : DomainName) (file bytes : List ℕ) (p : Program) → Asks call (Analyse delay descend full domain file) → Holds call fair file bytes → Writes call
       → length bytes ≤ most_bytes → IsAccepted bytes p
       → AnswersWith answer call (status_by (verdict_on (options delay descend full) p)) (report_on (options delay descend full) bytes p)
   -- a bench gets its figures

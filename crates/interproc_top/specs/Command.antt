@@ -44,7 +44,7 @@ pub record IsReplayed (files : Told) (file choices text : List ℕ) (answer : St
   pub run : IsRunText program bytes text answer
 
 abbrev pub IsOutput : Told → Asked → List ℕ → Status → Type 0
-IsOutput files (Analyse delay descend full file) text answer = IsReported files (options delay descend full) file text answer
+IsOutput files (Analyse delay descend full domain file) text answer = IsReported files (options delay descend full) file text answer
 IsOutput files (Bench n) text answer = IsBenchOf n text × (answer ≡ status.Proved)
 IsOutput files (Replay file choices) text answer = IsReplayed files file choices text answer
 
@@ -61,6 +61,6 @@ pub record StopsRun (r : Reading) (file choices : List ℕ) (cause : Cause) : Ty
   pub stops : Withholds r choices cause ⊎ ((bytes : List ℕ) × IsRead r.files choices bytes × Spoils program bytes cause)
 
 abbrev pub Stops : Reading → Asked → Cause → Type 0
-Stops r (Analyse delay descend full file) c = StopsProgram r file c
+Stops r (Analyse delay descend full domain file) c = StopsProgram r file c
 Stops r (Bench n) c = c ≡ cause.NoMemory
 Stops r (Replay file choices) c = StopsProgram r file c ⊎ StopsRun r file choices c

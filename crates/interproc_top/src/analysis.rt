@@ -6,7 +6,10 @@ ghost use Rattle.interproc_top.specs.Analysis.{usual};
 ghost use Rattle.interproc_top.specs.Reported.{IsReportOf};
 
 use crate::cause::Verdict;
+use command_words::DomainName;
 use control_points::{core_of, law_graphs};
+use dec_domain::DecDomain;
+use domain::Domain;
 use full_oct::FullDomain;
 use iteration::{analyse, law_sound};
 use memory::NoMemory;
@@ -45,9 +48,36 @@ pub struct Report {
     pub verdict: Verdict,
 }
 
-/// The report on an accepted program that was read from these bytes.
+/// The report on an accepted program that was read from these bytes. It is the same whichever domain it is made in.
 pub fn analysed(
     alloc: Global,
+    domain: DomainName,
+    bytes: &[u8],
+    checked: &Checked,
+    options: Options,
+) -> Result<Report, NoMemory>
+    requires short { length bytes.now ≤ 2 ^ 20 }
+    requires accepted { IsAccepted bytes.now (program_of checked.now) }
+    requires delay { options.delay ≤ 1000 }
+    requires descend { options.descend ≤ 1000 }
+    ensures { IfOk result (λ report. IsReportOf options bytes.now report.text.items report.verdict) }
+{
+    match domain {
+        DomainName::Decomposed => {
+            let mut dom = DecDomain::new();
+            analysed_in(alloc, &mut dom, bytes, checked, options)
+        }
+        DomainName::Full => {
+            let mut dom = FullDomain::new();
+            analysed_in(alloc, &mut dom, bytes, checked, options)
+        }
+    }
+}
+
+/// The report that is made in this domain.
+fn analysed_in<D: Domain>(
+    alloc: Global,
+    dom: &mut D,
     bytes: &[u8],
     checked: &Checked,
     options: Options,
@@ -63,24 +93,17 @@ pub fn analysed(
     law_listing();
     let _ = checked.tree();
     let built = core_of(alloc, checked)?;
-    let mut domain = FullDomain::new();
-    let solution = analyse(
-        alloc,
-        &mut domain,
-        &built.core,
-        options.delay,
-        options.descend,
-    )?;
+    let solution = analyse(alloc, dom, &built.core, options.delay, options.descend)?;
     let text = report_text(
         alloc,
         bytes,
         checked,
         &built,
-        &mut domain,
+        dom,
         &solution,
         options.full,
     )?;
-    let verdict = if all_unreachable(alloc, checked, &built, &mut domain, &solution)? {
+    let verdict = if all_unreachable(alloc, checked, &built, dom, &solution)? {
         Verdict::AllUnreachable
     } else {
         Verdict::SomeNotExcluded

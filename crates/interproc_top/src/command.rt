@@ -12,7 +12,8 @@ use crate::cause::{Cause, Status};
 use crate::reading::file_bytes;
 use crate::replay::replay_text;
 use crate::stages::report_of;
-use command_words::Command;
+use command_words::{Command, DomainName};
+use dec_domain::DecDomain;
 use spl_io::Files;
 use std::alloc::Global;
 
@@ -41,6 +42,7 @@ pub fn output_of<F: Files>(alloc: Global, command: &Command, files: &mut F) -> R
             delay,
             descend,
             full,
+            domain,
             file,
         } => {
             let options = Options {
@@ -48,7 +50,7 @@ pub fn output_of<F: Files>(alloc: Global, command: &Command, files: &mut F) -> R
                 descend: *descend,
                 full: *full,
             };
-            reported(alloc, file.as_str(), options, files)
+            reported(alloc, *domain, file.as_str(), options, files)
         }
         Command::Bench { number } => benched(alloc, *number),
         Command::Replay { file, choices } => {
@@ -60,6 +62,7 @@ pub fn output_of<F: Files>(alloc: Global, command: &Command, files: &mut F) -> R
 /// The report on the program in a file.
 fn reported<F: Files>(
     alloc: Global,
+    domain: DomainName,
     file: &str,
     options: Options,
     files: &mut F,
@@ -80,7 +83,7 @@ fn reported<F: Files>(
         Ok(bytes) => bytes,
         Err(cause) => return Err(cause),
     };
-    match report_of(alloc, &bytes, options) {
+    match report_of(alloc, domain, &bytes, options) {
         Ok(Report { text, verdict }) => Ok(Output {
             text,
             status: verdict.status(),
@@ -96,11 +99,12 @@ fn benched(alloc: Global, number: u32) -> Result<Output, Cause>
     ensures output { IfOk result (λ output. IsBenchOf number output.text.items × (output.status ≡ Status.Proved)) }
     ensures stopped { IfErr result (λ cause. cause ≡ Cause.NoMemory) }
 {
-    match bench_text(alloc, number) {
+    let mut dom = DecDomain::new();
+    match bench_text(alloc, number, &mut dom) {
         Ok(text) => Ok(Output {
             text,
             status: Status::Proved,
         }),
-        Err(cause) => Err(cause),
+        Err(_) => Err(Cause::NoMemory),
     }
 }

@@ -12,5 +12,6 @@ mod stages;
 mod tests;
 mod top;
 
+pub use bench::bench_text;
 pub use cause::Status;
 pub use top::run;

@@ -9,6 +9,7 @@ ghost use Rattle.interproc_top.specs.Reported.{IsReportOf, Refuses};
 
 use crate::analysis::{Options, Report, analysed};
 use crate::cause::{Cause, Rule};
+use command_words::DomainName;
 use spl_parser::{ParseFault, parse};
 use spl_text::{TextFault, Tokens, place_of, tokens};
 use spl_tree::Tree;
@@ -16,7 +17,12 @@ use spl_types::{CheckFault, Checked, check};
 use std::alloc::Global;
 
 /// The report on a program by its bytes, or the first thing that stands against it: a broken rule, or want of memory.
-pub fn report_of(alloc: Global, bytes: &[u8], options: Options) -> Result<Report, Cause>
+pub fn report_of(
+    alloc: Global,
+    domain: DomainName,
+    bytes: &[u8],
+    options: Options,
+) -> Result<Report, Cause>
     requires short { length bytes.now ≤ 2 ^ 20 }
     requires delay { options.delay ≤ 1000 }
     requires descend { options.descend ≤ 1000 }
@@ -26,7 +32,7 @@ pub fn report_of(alloc: Global, bytes: &[u8], options: Options) -> Result<Report
     let tokens = tokens_of(alloc, bytes)?;
     let tree = tree_of(alloc, bytes, &tokens)?;
     let checked = checked_of(alloc, bytes, &tree)?;
-    match analysed(alloc, bytes, &checked, options) {
+    match analysed(alloc, domain, bytes, &checked, options) {
         Ok(report) => Ok(report),
         Err(_) => Err(Cause::NoMemory),
     }

@@ -1,5 +1,6 @@
 //! What no clause says: that calls succeed with ample memory, and that the texts are the ones meant.
 use super::*;
+use dec_domain::DecDomain;
 use spl_io::{MemFiles, MemSink, Words};
 use std::alloc::Global;
 use std::process::Abort;
@@ -244,11 +245,20 @@ const WORKED: [(&[u8], u8, &[u8]); 3] = [
     ),
 ];
 
+/// The words of an analysis in each domain, and in the one that is taken where none is asked for.
+const DOMAINS: [&[&str]; 3] = [
+    &["f"],
+    &["--domain", "dec", "f"],
+    &["f", "--domain=full"],
+];
+
 #[test]
-fn worked_reports(rt: HostRuntime) -> Result<(), Fail> {
+fn worked_reports_in_each_domain(rt: HostRuntime) -> Result<(), Fail> {
     for (text, status, report) in WORKED {
-        let o = with_file(rt.alloc(), b"f", text)?;
-        expect(&rt, rt.alloc(), o, status, report, b"")?;
+        for words in DOMAINS {
+            let o = with_words(rt.alloc(), words, text, b"")?;
+            expect(&rt, rt.alloc(), o, status, report, b"")?;
+        }
     }
     Ok(())
 }
@@ -263,11 +273,12 @@ fn refusals(rt: HostRuntime) -> Result<(), Fail> {
 }
 
 /// Words of no form.
-const NO_FORM: [&[&str]; 7] = [
+const NO_FORM: [&[&str]; 8] = [
     &["f", "f"],
     &[],
     &["--delay", "1001", "f"],
     &["--domain", "zone", "f"],
+    &["--domain", "dec", "--domain=dec", "f"],
     &["--delay", "1", "--delay", "1", "f"],
     &["bench", "43"],
     &["replay", "f"],
@@ -563,16 +574,43 @@ fn replays(rt: HostRuntime) -> Result<(), Fail> {
     Ok(())
 }
 
+/// The number of a generated program, the same as a word, and the figures of its analysis. The rows grow with the groups:
+/// one block of all 120 variables would take 28,800 of them at each closing.
+const BENCHES: [(u32, &str, &[u8]); 3] = [
+    (
+        1,
+        "1",
+        b"variables 3\npoints 9\nrounds 2\nblocks 1\nlargest 3\nrows 328\n",
+    ),
+    (
+        3,
+        "03",
+        b"variables 9\npoints 19\nrounds 2\nblocks 3\nlargest 3\nrows 984\n",
+    ),
+    (
+        40,
+        "40",
+        b"variables 120\npoints 204\nrounds 2\nblocks 40\nlargest 3\nrows 13120\n",
+    ),
+];
+
 #[test]
-fn a_bench(rt: HostRuntime) -> Result<(), Fail> {
-    let o = with_words(rt.alloc(), &["bench", "3"], b"", b"")?;
-    expect(
-        &rt,
-        rt.alloc(),
-        o,
-        0,
-        b"variables 9\npoints 19\nrounds 2\nblocks 3\nlargest 3\nrows 0\n",
-        b"",
-    )?;
+fn benches(rt: HostRuntime) -> Result<(), Fail> {
+    for (_, word, text) in BENCHES {
+        let o = with_words(rt.alloc(), &["bench", word], b"", b"")?;
+        expect(&rt, rt.alloc(), o, 0, text, b"")?;
+    }
+    Ok(())
+}
+
+#[test]
+fn a_bench_counts_what_it_relaxes_itself(rt: HostRuntime) -> Result<(), Fail> {
+    let mut dom = DecDomain::new();
+    for (number, _, text) in BENCHES {
+        assert!(rt; 1 <= number && number <= 42);
+        let figures = bench_text(rt.alloc(), number, &mut dom)?;
+        assert_eq!(rt; figures.as_slice(), text);
+    }
+    assert_eq!(rt; dom.rows(), 14432);
     Ok(())
 }

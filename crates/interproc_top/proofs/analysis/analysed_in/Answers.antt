@@ -7,11 +7,11 @@ use Rattle.iteration.specs.Solution.{IsSolution}
 use Rattle.interproc_top.specs.Analysis.{verdict_on}
 use Rattle.interproc_top.specs.declared.cause.Verdict.TheVariants.{AllUnreachable, SomeNotExcluded}
 use Rattle.interproc_top.proofs.Promised.{holds, unreachable, no_fail}
-use Rattle.interproc_top.proofs.analysis.analysed.Goals.{then-branch, else-branch}
-use Rattle.interproc_top.proofs.analysis.analysed.Goals as goal
+use Rattle.interproc_top.proofs.analysis.analysed_in.Goals.{then-branch, else-branch}
+use Rattle.interproc_top.proofs.analysis.analysed_in.Goals as goal
 
 pub returns : goal.returns
-returns c =
+returns g c =
     let o = c.args.options in
     let p = program_of c.args.checked.now in
     let is : IsGraph (core_of p) = c.law_graphs.ensures p c.tree.ensures.accepted in
