@@ -1,5 +1,5 @@
 -- The value after an assignment, from what its steps answer.
-use Rattle.std.proofs.Common.{◌≡◌, ℕ, ◌+◌, ◌*◌, ◌<◌, ◌⊎◌, inl, inr, Bool, true, List, [], ◌∷◌, length, Option, Some, None, refl, sym, ap, ◌∙◌, subst, arith}
+use Rattle.std.proofs.Common.{◌≡◌, ℕ, ◌+◌, ◌*◌, ◌<◌, ◌⊎◌, inl, inr, true, List, [], ◌∷◌, length, Option, Some, None, refl, sym, ap, ◌∙◌, subst, arith}
 use Rattle.std.specs.Prelude.{IsSome, IfSome}
 use Rattle.std.specs.List.{All}
 use Rattle.std.specs.Option.{option_map, option_and_then}
@@ -11,7 +11,7 @@ use Rattle.oct_def.specs.Octagon.{bottom_value}
 use Rattle.oct_def.proofs.Tables.{length-table}
 use Rattle.spl_core.specs.Expression.{Expression, Variable}
 use Rattle.spl_core.specs.Facts.{AreDistinct}
-use Rattle.interval_form.specs.declared.constraints.Bounds.TheVariants.{Nothing, Few}
+use Rattle.interval_form.specs.declared.constraints.Bounds.TheVariants.{Nothing}
 use Rattle.interval_form.specs.declared.constraints.OctBound.{OctBound}
 use Rattle.interval_form.specs.declared.interval.Interval.{Interval}
 use Rattle.interval_form.specs.Form.{Form, form_value}

@@ -1,30 +1,23 @@
 -- The blocks before the tight closure of an assignment, and what closing them costs.
-use Rattle.std.proofs.Common.{◌≡◌, ℕ, ◌+◌, ◌*◌, ◌/◌, ◌<◌, ◌⊎◌, inl, inr, Bool, true, false, List, [], ◌∷◌, length, Option, Some, None, refl, sym, ap, ◌∙◌, subst, arith, zero, suc}
+use Rattle.std.proofs.Common.{◌≡◌, ℕ, ◌+◌, ◌/◌, ◌<◌, ◌⊎◌, inl, inr, true, false, List, [], ◌∷◌, length, Some, None, refl, sym, ap, ◌∙◌, subst, arith, suc}
 use Rattle.std.specs.Prelude.{◌↔◌}
-use Rattle.std.specs.List.{All}
 use Rattle.std.proofs.lemmas.Bool.{cases_Bool, cond-false}
 use Rattle.oct_def.specs.Bound.{Bound, least}
 use Rattle.oct_def.specs.Table.{Matrix}
 use Rattle.oct_def.specs.Tight.{tight}
-use Rattle.oct_def.proofs.Orders.{least_none}
 use Rattle.spl_core.specs.Expression.{Expression}
 use Rattle.interval_form.specs.declared.constraints.OctBound.{OctBound}
-use Rattle.interval_form.specs.declared.interval.Interval.{Interval}
-use Rattle.interval_form.specs.Form.{Form}
-use Rattle.interval_form.specs.FormBounds.{form_entry}
-use Rattle.interval_form.specs.Listed.{IsPlaced}
 use Rattle.interval_form.specs.Listing.{is_at, listed}
 use Rattle.transfer_def.specs.Assign.{extended_ranges, form_minus_new, new_minus_form}
 use Rattle.block_partition.specs.Partition.{block, IsIn}
-use Rattle.block_laws.specs.Assembly.{matrix}
 use Rattle.block_laws.specs.Components.{IsComponents}
 use Rattle.dec_oct.specs.Value.{Blocks, whole, Decomposed, decomposed, octagon, octagon_of, IsKept, IsKeptBlocks}
-use Rattle.dec_oct.specs.Cost.{IsMarkedBlock, CostsAtMost}
+use Rattle.dec_oct.specs.Cost.{CostsAtMost}
 use Rattle.dec_parts.specs.Lower.{bound_in, lowered_matrix, Touches, AreOffDiagonal, IsLowered}
 use Rattle.dec_parts.proofs.Taken.{at-is}
 use Rattle.dec_parts.proofs.Joined.{placed-in, listed-finite}
 use Rattle.dec_transfer.specs.Listed.{ListsBoth}
-use Rattle.dec_transfer.specs.Cost.{IsNewBound, IsNewlyTouched, AreBlocksBefore, IsAssignCount}
+use Rattle.dec_transfer.specs.Cost.{IsNewlyTouched, IsAssignCount}
 
 -- a bound that is listed
 pub record IsListed (bounds : List OctBound) (i j : ℕ) : Type 0 where

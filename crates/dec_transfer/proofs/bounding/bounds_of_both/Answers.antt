@@ -1,4 +1,4 @@
-use Rattle.std.proofs.Common.{length, inl, inr, subst}
+use Rattle.std.proofs.Common.{length, inl, subst}
 use Rattle.interval_form.specs.Sparse.{form_in}
 use Rattle.interval_form.specs.Listed.{AreBounds}
 use Rattle.dec_transfer.proofs.Lowering.{lists-both}
