@@ -11,12 +11,10 @@ use spl_core::{Action, Core, Proc};
 use std::alloc::Global;
 use std::test::Fail;
 
-/// A straight program, the rows that each of its edges relaxes, and the blocks at its end with the size of the largest one.
+/// A straight program, and the rows that each of its edges relaxes.
 struct Line {
     text: &'static str,
     rows: &'static str,
-    blocks: u32,
-    largest: u32,
 }
 
 /// A block of k variables that is closed relaxes 2k^2 rows for its closure, and as many for its mark.
@@ -24,26 +22,18 @@ const LINES: [Line; 4] = [
     Line {
         text: "var x:int, y:int, z:int; begin y = x; z = x; x = random; end",
         rows: "0 16 36 0 ",
-        blocks: 1,
-        largest: 2,
     },
     Line {
         text: "var x:int, y:int; begin x = 3; y = x + 4; end",
         rows: "0 4 16 ",
-        blocks: 1,
-        largest: 2,
     },
     Line {
         text: "var x:int, y:int; begin x = y; y = y + 1; end",
         rows: "0 16 36 ",
-        blocks: 1,
-        largest: 2,
     },
     Line {
         text: "var x:int, y:int; begin assume x >= 0; assume y <= 5; x = random; end",
         rows: "0 4 10 0 ",
-        blocks: 1,
-        largest: 1,
     },
 ];
 
@@ -96,8 +86,8 @@ pub(crate) fn at_end<D: Domain>(alloc: Global, dom: &mut D, core: &Core) -> Resu
     Ok(v)
 }
 
-/// The rows that each edge of main's body relaxes, and the blocks at its end with the size of the largest one.
-fn line_rows(alloc: Global, core: &Core) -> Result<(String, u32, u32), Fail> {
+/// The rows that each edge of main's body relaxes.
+fn line_rows(alloc: Global, core: &Core) -> Result<String, Fail> {
     let mut dom = DecDomain::new();
     let main = core.procs() - 1;
     let proc = core.proc_at(main);
@@ -112,17 +102,15 @@ fn line_rows(alloc: Global, core: &Core) -> Result<(String, u32, u32), Fail> {
             rows.push_str(format!(in alloc; "{more} ")?.as_str())?;
         }
     }
-    Ok((rows, v.blocks(), v.largest()))
+    Ok(rows)
 }
 
 #[test]
 fn straight_programs_relax_the_rows_of_what_they_touch(rt: HostRuntime) -> Result<(), Fail> {
     for line in &LINES {
         let core = core_in(rt.alloc(), line.text.as_bytes())?;
-        let (rows, blocks, largest) = line_rows(rt.alloc(), &core)?;
+        let rows = line_rows(rt.alloc(), &core)?;
         assert_eq!(&rt; rows.as_str(), line.rows, "{}", line.text);
-        assert_eq!(&rt; blocks, line.blocks, "{}", line.text);
-        assert_eq!(&rt; largest, line.largest, "{}", line.text);
     }
     Ok(())
 }
