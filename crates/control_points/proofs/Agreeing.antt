@@ -1,18 +1,16 @@
 -- The names of dimensions are those that stand for them.
-use Rattle.std.proofs.Common.{◌≡◌, ℕ, zero, suc, ◌+◌, ◌<◌, ◌≤◌, Bool, true, false, cond, List, [], ◌∷◌, ◌++◌, length, map, get_or, sym, ap, ◌∙◌, subst, arith, append_assoc, length-append, ◌⊎◌, inl, inr}
+use Rattle.std.proofs.Common.{◌≡◌, ℕ, zero, suc, ◌+◌, ◌<◌, ◌≤◌, true, false, cond, List, [], ◌∷◌, ◌++◌, length, map, get_or, sym, ap, ◌∙◌, subst, arith, append_assoc, length-append, ◌⊎◌, inl, inr}
 use Rattle.std.specs.Prelude.{codes}
-use Rattle.std.specs.List.{All}
 use Rattle.std.proofs.lemmas.List.{length-map, map-append, get_or-append-add}
 use Rattle.std.proofs.Math.ListN.{get_or-append}
-use Rattle.std.specs.Str.{bytes_eq}
 use Rattle.spl_tree.specs.Program.{Declared}
 use Rattle.spl_types.specs.Checks.{is_among, declared_names, Procedure, all_decls}
 use Rattle.spl_types.specs.Dimensions.{targets_in, input_name, copied, dimensions_of, dimensions}
 use Rattle.spl_types.proofs.Copying.{eq_same}
 use Rattle.control_points.specs.CoreOf.{spoken_by, dimension_in, place_in}
-use Rattle.control_points.specs.Laws.{NamesAgree, DimensionsAreNamed}
+use Rattle.control_points.specs.Laws.{DimensionsAreNamed}
 use Rattle.control_points.specs.Routines.{procedure_at}
-use Rattle.control_points.proofs.Framing.{Place, placed, copied_dim, plain_dim, either, declared_split, dim_written}
+use Rattle.control_points.proofs.Framing.{placed, copied_dim, plain_dim, either, declared_split, dim_written}
 use Rattle.control_points.proofs.Graphing.{Passes, filtered}
 
 -- the item at the place of a name is the name

@@ -1,5 +1,5 @@
 -- The procedures of a program, one after the other.
-use Rattle.std.proofs.Common.{◌≡◌, ℕ, ◌+◌, ◌-◌, ◌<◌, ◌≤◌, List, [], ◌∷◌, ◌++◌, length, take, drop, map, replicate, refl, sym, ap, ◌∙◌, subst, arith, append_assoc}
+use Rattle.std.proofs.Common.{◌≡◌, ℕ, ◌+◌, ◌-◌, ◌<◌, ◌≤◌, List, [], ◌∷◌, ◌++◌, length, take, drop, replicate, refl, sym, ap, ◌∙◌, subst, arith, append_assoc}
 use Rattle.std.proofs.lemmas.List.{take_more, take_all, append-nil, take-append-drop, length-take, length-map}
 use Rattle.spl_tree.specs.Lists.{Lists}
 use Rattle.spl_tree.specs.Facts.{IsTree}
@@ -12,7 +12,7 @@ use Rattle.spl_types.specs.Checks.{with_point, met_before, Procedure, main_proce
 use Rattle.spl_types.specs.Dimensions.{procedures}
 use Rattle.spl_types.specs.Accepted.{KeepsRules}
 use Rattle.spl_core.specs.declared.parts.Proc.{Proc}
-use Rattle.spl_core.specs.Graph.{Arc, Graph, arc_of}
+use Rattle.spl_core.specs.Graph.{Arc, Graph}
 use Rattle.control_points.specs.declared.built.Fail.{Fail}
 use Rattle.control_points.specs.CoreOf.{block_fails, points_by, proc_of, procedure_arcs, procs_after, owners_after, arcs_after, fails_after, proc_names, core_of, fails_of}
 use Rattle.control_points.specs.Routines.{procedure_at}
@@ -68,9 +68,6 @@ pub record SoFar (p : Program) (k : ℕ) (b : Building) (qs : List Proc) (os : L
   pub points : b.points ≡ end_after 0 (take k (procedures p))
   pub procs : qs ≡ procs_after 0 (take k (procedures p))
   pub owners : os ≡ owners_after 0 0 (take k (procedures p))
-
-pub none_so_far : (p : Program) (b : Building) (procs : List Proc) (owners : List ℕ) → b.parts.edges ≡ [] → b.fails ≡ [] → b.points ≡ 0 → procs ≡ [] → owners ≡ [] → SoFar p 0 b procs owners
-none_so_far p b procs owners e f g h i = record { arcs = ap (λ es. map (arc_of b.parts) es) e; fails = f; points = g; procs = h; owners = i }
 
 one_more : (p : Program) (k : ℕ) → k < length (procedures p) → take (k + 1) (procedures p) ≡ take k (procedures p) ++ procedure_at p k ∷ []
 one_more p k lt = take_more (procedures p) k (main_procedure p) lt

@@ -1,6 +1,6 @@
 -- The graph of an accepted program.
-use Rattle.std.proofs.Common.{◌≡◌, ℕ, suc, zero, ◌+◌, ◌-◌, ◌*◌, ◌<◌, ◌≤◌, Bool, true, false, not, nat_lt, List, [], ◌∷◌, ◌++◌, length, map, get_or, replicate, filter, refl, sym, ap, ◌∙◌, subst, arith, append_assoc, length-append, if◌then◌else◌, ◌||◌, ◌⊎◌, inl, inr}
-use Rattle.std.specs.List.{All, flat_map}
+use Rattle.std.proofs.Common.{◌≡◌, ℕ, suc, zero, ◌+◌, ◌-◌, ◌<◌, ◌≤◌, Bool, true, false, not, nat_lt, List, [], ◌∷◌, ◌++◌, length, map, get_or, replicate, filter, refl, sym, ap, ◌∙◌, subst, arith, append_assoc, length-append, if◌then◌else◌, ◌||◌, ◌⊎◌, inl, inr}
+use Rattle.std.specs.List.{All}
 use Rattle.std.proofs.lemmas.List.{length-map, length-replicate, get_or-replicate, get_or-append-add}
 use Rattle.std.proofs.lemmas.List.Elements.{All-nil, All-cons, All-append, All-replicate, All-from_get_or}
 use Rattle.std.proofs.Math.ListN.{get_or-append}
@@ -17,9 +17,8 @@ use Rattle.spl_types.proofs.Copying.{eq_refl}
 use Rattle.spl_types.proofs.Firsts.{kept_first, kept_last}
 use Rattle.spl_core.specs.declared.parts.Proc.{Proc}
 use Rattle.spl_core.specs.Parts.{no_proc}
-use Rattle.spl_core.specs.Facts.{IsWritable}
 use Rattle.spl_core.specs.Graph.{starts, Arc, Graph, proc_in, owner_of}
-use Rattle.control_points.specs.CoreOf.{copy_of, spoken_by, Naming, arc, place_in, dimension_in, block_arcs, points_by, proc_of, start_copies, procedure_arcs, procs_after, owners_after, arcs_after, core_of}
+use Rattle.control_points.specs.CoreOf.{copy_of, spoken_by, Naming, arc, block_arcs, points_by, proc_of, start_copies, procedure_arcs, procs_after, owners_after, arcs_after, core_of}
 use Rattle.spl_core.specs.GraphFacts.{CopyFits, MoveFits, ArcFits, ProcFitsIn}
 use Rattle.control_points.specs.Laws.{ProgramsMakeGraphs}
 use Rattle.control_points.proofs.Counting.{rises_by}

@@ -1,12 +1,12 @@
 -- A list of expressions or conditions with one more at its end.
-use Rattle.std.proofs.Common.{◌⊎◌, inl, inr, ◌^◌, ◌≡◌, ℕ, suc, ◌+◌, ◌<◌, ◌≤◌, List, [], ◌∷◌, ◌++◌, length, get_or, refl, sym, ap, ◌∙◌, subst, arith, length-append}
+use Rattle.std.proofs.Common.{◌≡◌, ℕ, suc, ◌+◌, ◌<◌, ◌≤◌, List, [], ◌∷◌, ◌++◌, length, get_or, refl, ap, ◌∙◌, arith, length-append}
 use Rattle.std.proofs.lemmas.List.{get_or_push}
 use Rattle.std.proofs.Math.ListN.{get_or-append}
 use Rattle.spl_core.specs.declared.parts.CoreExpr.{CoreExpr}
 use Rattle.spl_core.specs.declared.parts.CoreCond.{CoreCond}
 use Rattle.spl_core.specs.declared.parts.CoreCond.TheVariants as cond
 use Rattle.spl_core.specs.Parts.{Parts}
-use Rattle.spl_core.specs.Facts.{Each, ExprFits, CondFits}
+use Rattle.spl_core.specs.Facts.{CondFits}
 use Rattle.spl_core.specs.Expression.{Expression, Number}
 use Rattle.spl_core.specs.Condition.{Condition, Random, Compare}
 use Rattle.spl_core.specs.Graph.{expr_at, expr_over, exprs_after, cond_at, cond_over, conds_after}
@@ -52,25 +52,6 @@ conds_same c es fs trees (x ∷ conds) h w =
     ap (λ y. conds_after es (trees ++ y ∷ []) conds) (cond_same c es fs trees f.0 x f.1 w)
     ∙ conds_same c es fs (trees ++ cond_over fs trees x ∷ []) conds (λ k d lt. h (suc k) d (omega arith)) w
 
-pub each_push : {X : Type 0} (P : ℕ → X → Type 0) (xs : List X) (x : X) → Each P xs → P (length xs) x → Each P (xs ++ x ∷ [])
-each_push {X} P xs x h p = λ k d lt. by k d (omega (arith, length-append xs (x ∷ [])))
-  where
-    at_end : (k : ℕ) (d : X) → k ≡ length xs → P k (get_or (xs ++ x ∷ []) k d)
-    at_end k d e = let Q : X → Type 0 = λ y. P k y in let R : ℕ → Type 0 = λ n. P n x in subst Q (sym (get_or_push xs x d k (sym e))) (subst R (sym e) p)
-
-    before : (k : ℕ) (d : X) → k < length xs → P k (get_or (xs ++ x ∷ []) k d)
-    before k d l = let Q : X → Type 0 = λ y. P k y in subst Q (sym (get_or-append xs (x ∷ []) d k l)) (h k d l)
-
-    by : (k : ℕ) (d : X) → k < suc (length xs) → P k (get_or (xs ++ x ∷ []) k d)
-    by k d l = choose k d (split k l)
-      where
-        split : (k : ℕ) → k < suc (length xs) → (k < length xs) ⊎ (k ≡ length xs)
-        split k l = grind arith
-
-        choose : (k : ℕ) (d : X) → (k < length xs) ⊎ (k ≡ length xs) → P k (get_or (xs ++ x ∷ []) k d)
-        choose k d (inl m) = before k d m
-        choose k d (inr e) = at_end k d e
-
 -- an expression more
 pub grows_expr : (exprs : List CoreExpr) (conds : List CoreCond) (e : CoreExpr) → AreNodes (nodes_of exprs conds) → Grows (nodes_of exprs conds) (nodes_of (exprs ++ e ∷ []) conds)
 grows_expr exprs conds e h =
@@ -113,19 +94,3 @@ fits_more c b k (cond.Not a) le h = h
 fits_more c b k (cond.And x y) le h = h
 fits_more c b k (cond.Or x y) le h = h
 fits_more c b k (cond.Compare r x y) le h = (omega (arith, h.0), omega (arith, h.1))
-
-pub nodes_expr : (exprs : List CoreExpr) (conds : List CoreCond) (e : CoreExpr) → AreNodes (nodes_of exprs conds) → ExprFits (length exprs) e → length exprs + 1 < 2 ^ 31 → AreNodes (nodes_of (exprs ++ e ∷ []) conds)
-nodes_expr exprs conds e h f lt = record {
-  exprs = each_push ExprFits exprs e h.exprs f;
-  conds = λ k d l. fits_more (nodes_of exprs conds) (nodes_of (exprs ++ e ∷ []) conds) k (get_or conds k d) (omega (arith, length-append exprs (e ∷ []))) (h.conds k d l);
-  few_exprs = omega (arith, lt, length-append exprs (e ∷ []));
-  few_conds = h.few_conds;
-}
-
-pub nodes_cond : (exprs : List CoreExpr) (conds : List CoreCond) (e : CoreCond) → AreNodes (nodes_of exprs conds) → CondFits (nodes_of exprs conds) (length conds) e → length conds + 1 < 2 ^ 31 → AreNodes (nodes_of exprs (conds ++ e ∷ []))
-nodes_cond exprs conds e h f lt = record {
-  exprs = h.exprs;
-  conds = each_push (CondFits (nodes_of exprs conds)) conds e (λ k d l. h.conds k d l) f;
-  few_exprs = h.few_exprs;
-  few_conds = omega (arith, lt, length-append conds (e ∷ []));
-}

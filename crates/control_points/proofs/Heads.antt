@@ -1,20 +1,20 @@
 -- Loop heads, and the edges out of a point.
-use Rattle.std.proofs.Common.{◌≡◌, ◌≢◌, ℕ, suc, ◌+◌, ◌-◌, ◌<◌, ◌≤◌, Bool, true, false, cond, List, [], ◌∷◌, ◌++◌, length, map, filter, get_or, refl, sym, ap, ◌∙◌, subst, arith, ◌⊎◌, inl, inr}
+use Rattle.std.proofs.Common.{◌≡◌, ◌≢◌, ℕ, ◌+◌, ◌-◌, ◌<◌, ◌≤◌, Bool, true, false, cond, List, [], ◌∷◌, ◌++◌, map, filter, refl, sym, ap, ◌∙◌, subst, arith, ◌⊎◌, inl, inr}
 use Rattle.std.specs.Prelude.{nat_eq, nat_le}
 use Rattle.std.specs.List.{All}
 use Rattle.std.proofs.lemmas.Bool.{eqb-true}
 use Rattle.std.proofs.lemmas.Bool.Decides.{nat_tests}
 use Rattle.std.proofs.lemmas.List.Elements.{All-nil, All-cons, All-append, All-head, All-tail}
 use Rattle.spl_tree.specs.Program.{StmtTree, skip, halt, fail, assume, assign, call, if_then, if_else, while_do, BlockTree, empty, more}
-use Rattle.spl_types.specs.Checks.{Met, met_before, with_point, met_in, met_by, Procedure}
+use Rattle.spl_types.specs.Checks.{Met, met_before, with_point, met_by, Procedure}
 use Rattle.spl_types.specs.Dimensions.{procedures}
 use Rattle.spl_core.specs.Condition.{Condition}
 use Rattle.spl_core.specs.Graph.{Move, skips, tests, starts, Arc}
 use Rattle.control_points.specs.CoreOf.{Naming, arc, condition_of, spoken_by, start_copies, stmt_arcs, block_arcs, points_by, procedure_arcs, arcs_after, proc_names, core_of}
 use Rattle.control_points.specs.Laws.{stmt_heads, block_heads, heads_after, leads_back, HeadsAreEntered, AtMostTwo, EdgesOutAreFew}
-use Rattle.control_points.proofs.Counting.{rises_in, rises_by}
+use Rattle.control_points.proofs.Counting.{rises_by}
 use Rattle.control_points.proofs.Ranges.{Ranges, stmt_ranges, block_ranges}
-use Rattle.control_points.proofs.Graphing.{procedure_ranges, arcs_from, two_points}
+use Rattle.control_points.proofs.Graphing.{procedure_ranges, arcs_from}
 
 -- ---- edges to the same or an earlier point
 

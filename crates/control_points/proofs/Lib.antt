@@ -4,9 +4,11 @@ pub mod Passing
 pub mod Growing
 pub mod Naming
 pub mod Keeping
+pub mod Stretching
 pub mod Storing
 pub mod Moving
 pub mod Counting
+pub mod Lengthening
 pub mod Emitted
 pub mod Adding
 pub mod Owning
@@ -15,6 +17,7 @@ pub mod Fresh
 pub mod Fitting
 pub mod Framing
 pub mod Graphing
+pub mod Bounding
 pub mod Finished
 pub mod Tabling
 pub mod Starting

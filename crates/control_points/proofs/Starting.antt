@@ -9,11 +9,12 @@ use Rattle.spl_tree.specs.Program.{Program, BlockTree}
 use Rattle.spl_types.specs.Dimensions.{targets_in, copied, dimensions_of, dimensions}
 use Rattle.spl_core.specs.declared.parts.Proc.{Proc}
 use Rattle.control_points.specs.Routines.{procedure_at}
-use Rattle.control_points.proofs.Counting.{same_by}
 use Rattle.control_points.proofs.Tabling.{copies_last}
 use Rattle.spl_core.specs.Graph.{Copy, pairs_in, starts}
 use Rattle.control_points.specs.CoreOf.{copy_of, Spoken, spoken_by, Naming, arc, place_in, dimension_in, start_copies, block_arcs, block_fails, points_by, proc_of}
-use Rattle.control_points.specs.Building.{Building, Adds}
+use Rattle.spl_core.specs.Parts.{Parts}
+use Rattle.control_points.specs.declared.built.Fail.{Fail}
+use Rattle.control_points.specs.Building.{Building, Adds, arcs_in}
 use Rattle.control_points.specs.Emitting.{copy_named, copies_named, EmitsBlock, AddsProcedure}
 use Rattle.control_points.proofs.Framing.{either, declared_split, dims_count}
 use Rattle.control_points.proofs.Fresh.{true_false}
@@ -120,11 +121,12 @@ proc_is p k points inputs outputs dims entry exit a b c d e =
     ∙ (ap (λ v. P (length u.inputs) (length u.outputs) (length (dimensions_of u)) v exit) d
     ∙ ap (λ v. P (length u.inputs) (length u.outputs) (length (dimensions_of u)) points v) e)))
 
--- the limit at a procedure's body
-pub body_few : (t : Program) (k n m : ℕ) (body : BlockTree) → points_by n (procedure_at t k) ≤ 4096 → m ≡ n + 1 → body ≡ (procedure_at t k).body → (met_by (met_before m) body).points ≤ 4096
-body_few t k n m body le e f =
-    let u : Procedure = procedure_at t k in
-    omega (arith, le, ap (λ b. (met_by (met_before m) b).points) f, same_by (met_before m) (with_point (met_before n)) u.body e)
-
 pub begin_few : (t : Program) (k n : ℕ) → points_by n (procedure_at t k) ≤ 4096 → n < 4096
 begin_few t k n le = omega (arith, le, two_points n (procedure_at t k))
+
+-- the start of a procedure, after it was begun
+pub start_from : (cs : List Copy) (a b c : Building) → b.parts ≡ a.parts → b.fails ≡ a.fails → b.points ≡ a.points → Adds (arc b.points (b.points + 1) (starts cs) ∷ []) [] (b.points + 1) b c → Adds (arc a.points (a.points + 1) (starts cs) ∷ []) [] (a.points + 1) a c
+start_from cs a b c e f g h =
+    let P : ℕ → Type 0 = λ n. Adds (arc n (n + 1) (starts cs) ∷ []) [] (n + 1) b c in
+    let w = subst P g h in
+    record { arcs = w.arcs ∙ ap (λ (x : Parts). arcs_in x ++ arc a.points (a.points + 1) (starts cs) ∷ []) e; fails = w.fails ∙ ap (λ (l : List Fail). l ++ []) f; points = w.points }

@@ -12,6 +12,7 @@ mod names;
 mod nodes_made;
 mod offsets;
 mod programs;
+mod window;
 
 pub use built::{Built, Fail};
 pub use laws::{law_examples, law_graphs, law_names, law_places, law_shape};

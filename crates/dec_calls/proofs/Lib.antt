@@ -1,1 +1,4 @@
 pub mod Entered
+pub mod Listings
+pub mod Bringing
+pub mod Returns

@@ -1,25 +1,30 @@
 -- What the exit says of inputs and outputs, as listed bounds.
-use Rattle.std.specs.Prelude.{◌≡◌, ℕ, ◌+◌, ◌*◌, ◌<◌, nat_eq, List, None, if◌then◌else◌}
+use Rattle.std.specs.Prelude.{◌≡◌, ℕ, ◌+◌, ◌&&◌, nat_eq, List, None, length, if◌then◌else◌}
 use Rattle.std.specs.List.{All}
-use Rattle.oct_def.specs.Bound.{Bound}
-use Rattle.oct_def.specs.Table.{Matrix, at}
+use Rattle.oct_def.specs.Bound.{Bound, least}
+use Rattle.oct_def.specs.Table.{Matrix, table, at}
 use Rattle.interval_form.specs.declared.constraints.OctBound.{OctBound}
 use Rattle.interval_form.specs.Listed.{IsPlaced}
 use Rattle.interval_form.specs.Listing.{listed}
-use Rattle.transfer_def.specs.Back.{least_below, joined_dimension, brought_from}
+use Rattle.transfer_def.specs.Back.{brought_in_row, brought_entry}
 
--- the exit's entry (i, j), if i and j are apart and stand at p and q
-unfoldable pub apart_from : ℕ → List ℕ → Matrix → ℕ → ℕ → ℕ → ℕ → Bound
-apart_from n args exit p q i j = if nat_eq i j then None else brought_from n args exit p q i j
+-- a matrix without the bounds on its diagonal
+unfoldable pub off_diagonal : Matrix → ℕ → ℕ → Bound
+off_diagonal m i j = if nat_eq i j then None else at m i j
 
-unfoldable pub apart_in_row : ℕ → List ℕ → ℕ → Matrix → ℕ → ℕ → ℕ → Bound
-apart_in_row size args n exit p q i = least_below size (apart_from n args exit p q i)
+unfoldable pub without_diagonal : Matrix → Matrix
+without_diagonal m = table (length m) (off_diagonal m)
 
--- the least of the exit's entries off its diagonal that stand at p and q
-unfoldable pub apart_entry : ℕ → List ℕ → ℕ → Matrix → ℕ → ℕ → Bound
-apart_entry size args n exit p q = least_below size (apart_in_row size args n exit p q)
+-- what a bound that stands at (i, j) says at (p, q)
+unfoldable pub standing : ℕ → ℕ → Bound → ℕ → ℕ → Bound
+standing i j b p q = if nat_eq i p && nat_eq j q then b else None
 
--- the finite entries of the exit off its diagonal between so many signed dimensions, each at the places where these stand
-pub record AreBrought (n k : ℕ) (args : List ℕ) (size : ℕ) (exit : Matrix) (bounds : List OctBound) : Type 0 where
-  pub placed : All (IsPlaced (n + k)) bounds
-  pub entries : (p q : ℕ) → p < 2 * (n + k) → q < 2 * (n + k) → listed bounds p q ≡ apart_entry size args n exit p q
+-- a list with the entries of row i of the exit behind it, without the diagonal
+pub record ListsRow (n : ℕ) (args : List ℕ) (outputs : ℕ) (exit : Matrix) (i : ℕ) (old new : List OctBound) : Type 0 where
+  pub placed : All (IsPlaced (n + outputs)) old → All (IsPlaced (n + outputs)) new
+  pub entries : (p q : ℕ) → listed new p q ≡ least (listed old p q) (brought_in_row n args outputs (without_diagonal exit) p q i)
+
+-- the entries of the exit between inputs and outputs, without the diagonal, each at the places where these stand
+pub record AreBrought (n : ℕ) (args : List ℕ) (outputs : ℕ) (exit : Matrix) (bounds : List OctBound) : Type 0 where
+  pub placed : All (IsPlaced (n + outputs)) bounds
+  pub entries : (p q : ℕ) → listed bounds p q ≡ brought_entry n args outputs (without_diagonal exit) p q

@@ -3,7 +3,7 @@ ghost use Rattle.std.specs.Prelude.{◌≡◌, ℕ, ◌<◌, ◌≤◌, IfOk, le
 ghost use Rattle.std.specs.List.{All};
 ghost use Rattle.transfer_def.specs.Enter.{enter_value};
 ghost use Rattle.dec_oct.specs.Value.{octagon};
-ghost use Rattle.dec_calls.specs.Inputs.{AreInputs};
+ghost use Rattle.dec_calls.specs.Inputs.{argument_of, AreInputs};
 
 use dec_oct::DecOct;
 use dec_parts::renamed;
@@ -11,18 +11,21 @@ use memory::NoMemory;
 use minplus_lanes::RowCount;
 use std::alloc::Global;
 
-// The caller's variable that each of the callee's is: an input its argument, and no other one.
+// The caller's variable that a variable of the callee is: an input its argument, and no other one.
+fn argument(args: &[u32], v: usize) -> Option<u32>
+    ensures { result ≡ argument_of args.now v }
+{
+    if v < args.len() { Some(args[v]) } else { None }
+}
+
+// The same of each of the callee's variables.
 fn inputs(alloc: Global, args: &[u32], dims: u32) -> Result<Vec<Option<u32>>, NoMemory>
     requires small { dims ≤ 512 }
     ensures { IfOk result (λ o. AreInputs args.now dims o.items) }
 {
     let mut origins = Vec::with_capacity(alloc, dims as usize)?;
     for v in 0..dims as usize {
-        if v < args.len() {
-            origins.push(Some(args[v]))?;
-        } else {
-            origins.push(None)?;
-        }
+        origins.push(argument(args, v))?;
     }
     Ok(origins)
 }

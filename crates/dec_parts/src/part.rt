@@ -1,12 +1,11 @@
 // A block's matrix with its mark.
-ghost use Rattle.std.specs.Prelude.{◌≡◌, ℕ, ◌<◌, ◌≤◌, IfOk, IfSome, IsSome, length, true, false};
+ghost use Rattle.std.specs.Prelude.{◌≡◌, ◌<◌, IfOk, IfSome, IsSome, length, true, false};
 ghost use Rattle.block_partition.specs.Partition.{IsBlock};
 ghost use Rattle.block_laws.specs.Assembly.{restrict};
 ghost use Rattle.dec_oct.specs.Value.{whole};
 ghost use Rattle.dec_oct.specs.Cost.{IsMarkedBlock};
 
-use block_partition::Partition;
-use dec_oct::{DecOct, Parts};
+use dec_oct::DecOct;
 use half_matrix::HalfMatrix;
 use memory::NoMemory;
 use std::alloc::Global;

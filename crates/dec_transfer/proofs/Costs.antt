@@ -1,30 +1,23 @@
 -- The blocks before the tight closure of an assignment, and what closing them costs.
-use Rattle.std.proofs.Common.{◌≡◌, ℕ, ◌+◌, ◌*◌, ◌/◌, ◌<◌, ◌⊎◌, inl, inr, Bool, true, false, List, [], ◌∷◌, length, Option, Some, None, refl, sym, ap, ◌∙◌, subst, arith, zero, suc}
+use Rattle.std.proofs.Common.{◌≡◌, ℕ, ◌+◌, ◌/◌, ◌<◌, ◌⊎◌, inl, inr, true, false, List, [], ◌∷◌, length, Some, None, refl, sym, ap, ◌∙◌, subst, arith, suc}
 use Rattle.std.specs.Prelude.{◌↔◌}
-use Rattle.std.specs.List.{All}
 use Rattle.std.proofs.lemmas.Bool.{cases_Bool, cond-false}
 use Rattle.oct_def.specs.Bound.{Bound, least}
 use Rattle.oct_def.specs.Table.{Matrix}
 use Rattle.oct_def.specs.Tight.{tight}
-use Rattle.oct_def.proofs.Orders.{least_none}
 use Rattle.spl_core.specs.Expression.{Expression}
 use Rattle.interval_form.specs.declared.constraints.OctBound.{OctBound}
-use Rattle.interval_form.specs.declared.interval.Interval.{Interval}
-use Rattle.interval_form.specs.Form.{Form}
-use Rattle.interval_form.specs.FormBounds.{form_entry}
-use Rattle.interval_form.specs.Listed.{IsPlaced}
 use Rattle.interval_form.specs.Listing.{is_at, listed}
 use Rattle.transfer_def.specs.Assign.{extended_ranges, form_minus_new, new_minus_form}
 use Rattle.block_partition.specs.Partition.{block, IsIn}
-use Rattle.block_laws.specs.Assembly.{matrix}
 use Rattle.block_laws.specs.Components.{IsComponents}
 use Rattle.dec_oct.specs.Value.{Blocks, whole, Decomposed, decomposed, octagon, octagon_of, IsKept, IsKeptBlocks}
-use Rattle.dec_oct.specs.Cost.{IsMarkedBlock, CostsAtMost}
+use Rattle.dec_oct.specs.Cost.{CostsAtMost}
 use Rattle.dec_parts.specs.Lower.{bound_in, lowered_matrix, Touches, AreOffDiagonal, IsLowered}
 use Rattle.dec_parts.proofs.Taken.{at-is}
 use Rattle.dec_parts.proofs.Joined.{placed-in, listed-finite}
 use Rattle.dec_transfer.specs.Listed.{ListsBoth}
-use Rattle.dec_transfer.specs.Cost.{IsNewBound, IsNewlyTouched, AreBlocksBefore, IsAssignCount}
+use Rattle.dec_transfer.specs.Cost.{IsNewlyTouched, IsAssignCount}
 
 -- a bound that is listed
 pub record IsListed (bounds : List OctBound) (i j : ℕ) : Type 0 where
@@ -35,12 +28,12 @@ pub record IsListed (bounds : List OctBound) (i j : ℕ) : Type 0 where
 
 listed-some : (bounds : List OctBound) (i j : ℕ) → (listed bounds i j ≡ None → ⊥) → IsListed bounds i j
 listed-some [] i j h = absurd (h refl)
-listed-some (b ∷ bs) i j h = by (cases_Bool (is_at b i j))
+listed-some (b ∷ bs) i j h = by (λ g. listed-some bs i j g) (cases_Bool (is_at b i j))
   where
-    by : (is_at b i j ≡ true) ⊎ (is_at b i j ≡ false) → IsListed (b ∷ bs) i j
-    by (inl e) = let r = at-is b i j e in record { place = 0; within = omega arith; row = r.0; column = r.1 }
-    by (inr e) =
-        let s = listed-some bs i j (λ t. h (cond-false _ _ _ e ∙ t)) in
+    by : ((listed bs i j ≡ None → ⊥) → IsListed bs i j) → (is_at b i j ≡ true) ⊎ (is_at b i j ≡ false) → IsListed (b ∷ bs) i j
+    by rest (inl e) = let r = at-is b i j e in record { place = 0; within = omega arith; row = r.0; column = r.1 }
+    by rest (inr e) =
+        let s = rest (λ t. h (cond-false _ _ _ e ∙ t)) in
         record { place = suc s.place; within = let p = s.within in omega arith; row = s.row; column = s.column }
 
 either-finite : (a b : Bound) → (least a b ≡ None → ⊥) → (a ≡ None → ⊥) ⊎ (b ≡ None → ⊥)
@@ -58,7 +51,7 @@ touched-new : (n : ℕ) (e : Expression) (m : Matrix) (bounds : List OctBound) (
 touched-new n e m bounds vs size h = (there, back)
   where
     there : Touches bounds vs → IsNewlyTouched n e m vs
-    there (k, (p, t)) =
+    there (k, p, t) =
         let b = bound_in bounds k in
         let z = placed-in (length (extended_ranges n m)) bounds k h.placed p in
         let r = z.row in
@@ -78,7 +71,7 @@ touched-new n e m bounds vs size h = (there, back)
         let q = t.column_in in
         let f = subst (λ t. t ≡ None → ⊥) (sym (h.entries t.row t.column (omega (arith, size, p)) (omega (arith, size, q)))) (least-finite _ _ t.bound) in
         let s = listed-some bounds t.row t.column f in
-        (s.place, (s.within, side s t.touch))
+        (s.place, s.within, side s t.touch)
       where
         side : (s : IsListed bounds t.row t.column) → IsIn vs (t.row / 2) ⊎ IsIn vs (t.column / 2) → IsIn vs ((bound_in bounds s.place).row / 2) ⊎ IsIn vs ((bound_in bounds s.place).column / 2)
         side s (inl i) = inl (subst (λ z. IsIn vs (z / 2)) (sym s.row) i)

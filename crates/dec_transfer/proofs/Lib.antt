@@ -1,3 +1,9 @@
-pub mod Forgetting
+pub mod Forgotten
 pub mod Lowering
+pub mod Restricting
+pub mod Conditions
+pub mod Tested
 pub mod Costs
+pub mod NewVariable
+pub mod Assigned
+pub mod Marked

@@ -1,7 +1,8 @@
 -- A matrix with the bounds of forms is one that takes what is listed for them.
-use Rattle.std.proofs.Common.{◌≡◌, ℕ, ◌+◌, ◌*◌, ◌<◌, Bool, true, false, List, length, Option, Some, None, refl, sym, ap, ◌∙◌, subst, arith}
+use Rattle.std.proofs.Common.{◌≡◌, ℕ, ◌*◌, ◌<◌, ◌++◌, true, false, List, length, Some, None, sym, ap, ◌∙◌, subst, arith}
 use Rattle.std.specs.Option.{option_and_then}
 use Rattle.std.proofs.lemmas.Bool.{cond-true, cond-false}
+use Rattle.std.proofs.lemmas.List.Elements.{All-append}
 use Rattle.oct_def.specs.Bound.{Bound, least}
 use Rattle.oct_def.specs.Table.{Matrix, table, at}
 use Rattle.oct_def.specs.Matrix.{opposite}
@@ -13,8 +14,9 @@ use Rattle.interval_form.specs.declared.constraints.OctBound.{OctBound}
 use Rattle.interval_form.specs.declared.interval.Interval.{Interval}
 use Rattle.interval_form.specs.Form.{Form, form_value}
 use Rattle.interval_form.specs.FormBounds.{is_above_zero, form_entry, form_matrix, form_bounds, with_bounds, least_entry, least_matrix, bounded}
-use Rattle.interval_form.specs.Listed.{Lists}
+use Rattle.interval_form.specs.Listed.{IsPlaced, Lists}
 use Rattle.interval_form.specs.Listing.{listed}
+use Rattle.interval_form.proofs.Listings.{listed-append}
 use Rattle.interval_form.proofs.Shapes.{form_entry-twin}
 use Rattle.dec_parts.specs.Lower.{lowered_entry, lowered_matrix}
 use Rattle.dec_transfer.specs.Listed.{ListsBoth}
@@ -68,3 +70,13 @@ both-lowered ranges f g bounds m e h =
         ap (λ t. least t (at (form_matrix ranges g) i j)) (at-table (length m) (least_entry m (form_matrix ranges f)) i j (omega arith) (omega arith) ∙ ap (least (at m i j)) (at-form ranges f i j p q))
         ∙ ap (least (least (at m i j) (form_entry ranges f i j))) (at-form ranges g i j p q)
         ∙ least_assoc (at m i j) (form_entry ranges f i j) (form_entry ranges g i j) ∙ ap (least (at m i j)) (sym (all_listed i j p q))
+
+-- ---- the lists of two forms, one behind the other
+
+pub lists-both : (ranges : List Interval) (f g : Form) (xs ys zs : List OctBound) → Lists ranges f xs → Lists ranges g ys → zs ≡ xs ++ ys → ListsBoth ranges f g zs
+lists-both ranges f g xs ys zs h k e = subst (ListsBoth ranges f g) (sym e) (record {
+  first = h.possible;
+  second = k.possible;
+  placed = All-append (IsPlaced (length ranges)) xs ys h.placed k.placed;
+  entries = λ i j p q. listed-append xs ys i j ∙ ap (λ t. least t (listed ys i j)) (h.entries i j p q) ∙ ap (least (form_entry ranges f i j)) (k.entries i j p q);
+})

@@ -5,7 +5,7 @@ use Rattle.oct_def.specs.Bound.{least}
 use Rattle.interval_form.specs.declared.constraints.Bounds.{Bounds}
 use Rattle.interval_form.specs.declared.constraints.Bounds.TheVariants.{Nothing, Few}
 use Rattle.interval_form.specs.declared.constraints.OctBound.{OctBound}
-use Rattle.interval_form.specs.Interval.{Interval}
+use Rattle.interval_form.specs.declared.interval.Interval.{Interval}
 use Rattle.interval_form.specs.Form.{Form, form_value}
 use Rattle.interval_form.specs.FormBounds.{is_above_zero, form_entry}
 use Rattle.interval_form.specs.Listed.{IsPlaced}

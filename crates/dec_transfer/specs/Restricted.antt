@@ -4,7 +4,7 @@ use Rattle.std.specs.Option.{option_and_then}
 use Rattle.oct_def.specs.Tight.{tight}
 use Rattle.oct_def.specs.Table.{Matrix}
 use Rattle.oct_def.specs.Octagon.{Octagon, on_matrix}
-use Rattle.interval_form.specs.Interval.{Interval}
+use Rattle.interval_form.specs.declared.interval.Interval.{Interval}
 use Rattle.interval_form.specs.Form.{Form}
 use Rattle.interval_form.specs.FormBounds.{bounded}
 

@@ -1,11 +1,17 @@
 // Assignments: a new variable equals the linear form of the expression, and then takes the place of the target.
-ghost use Rattle.std.specs.Prelude.{◌≡◌, ◌+◌, ◌<◌, ◌≤◌, IfOk, IfSome, IsSome, length};
-ghost use Rattle.spl_core.specs.Expression.{Variable, IsOver};
+ghost use Rattle.std.specs.Prelude.{◌≡◌, ◌+◌, ◌<◌, ◌≤◌, IfOk, IsSome, length};
+ghost use Rattle.std.specs.List.{All};
+ghost use Rattle.spl_core.specs.Expression.{Expression, Variable, IsOver};
 ghost use Rattle.spl_core.specs.Graph.{expr_at, exprs_in};
+ghost use Rattle.interval_form.specs.Listed.{IsPlaced};
 ghost use Rattle.interval_form.specs.Sparse.{IsFormOver};
 ghost use Rattle.transfer_def.specs.Assign.{assign_value};
-ghost use Rattle.dec_oct.specs.Value.{octagon};
+ghost use Rattle.dec_oct.specs.Value.{octagon, whole};
+ghost use Rattle.dec_lattice.specs.Over.{held};
 ghost use Rattle.dec_transfer.specs.Cost.{AssignCosts};
+ghost use Rattle.dec_transfer.specs.Formed.{IsFormOf, AreBoundsOfNew, ArePlaced};
+ghost use Rattle.dec_transfer.specs.Closed.{IsClosedAndMoved};
+ghost use Rattle.dec_transfer.specs.Marks.{AssignMarks, IsAssigned};
 
 use crate::bounding::bounds_of_both;
 use crate::ranges::{ranges_of_all, ranges_with_new};
@@ -22,6 +28,8 @@ fn bounds_of_new(alloc: Global, v: &DecOct, form: &Form) -> Result<Bounds, NoMem
     requires small { v.now.dims ≤ 256 }
     requires not_bottom { IsSome v.now.blocks }
     requires over { IsFormOver v.now.dims form.now }
+    ensures placed { IfOk result (λ b. ArePlaced (v.now.dims + 1) b) }
+    ensures bounds { IfOk result (λ b. AreBoundsOfNew v.now.dims (whole v.now.dims (held v.now)) form.now b) }
 {
     let ranges = ranges_with_new(alloc, v)?;
     let new = Form::of_variable(alloc, v.dims())?;
@@ -40,11 +48,16 @@ fn with_new_bounds(
     count: &mut RowCount,
 ) -> Result<DecOct, NoMemory>
     requires small { v.now.dims ≤ 256 }
+    requires target { target < v.now.dims }
     requires not_bottom { IsSome v.now.blocks }
+    requires placed { All (IsPlaced (v.now.dims + 1)) bounds.now }
+    ensures rises { count.old ≤ count.new }
+    ensures after { IfOk result (λ r. IsClosedAndMoved v.now.dims target (held v.now) bounds.now count.old count.new r) }
 {
     let wide = v.extended(1)?;
     let parts = lowered(alloc, &wide, bounds)?;
     let closed = DecOct::tight_of(alloc, parts, count)?;
+    closed.known();
     let after = moved(alloc, &closed, v.dims(), &[target])?;
     Ok(after)
 }
@@ -58,9 +71,13 @@ fn assign_form(
     count: &mut RowCount,
 ) -> Result<DecOct, NoMemory>
     requires small { v.now.dims ≤ 256 }
+    requires target { target < v.now.dims }
     requires not_bottom { IsSome v.now.blocks }
     requires over { IsFormOver v.now.dims form.now }
+    ensures rises { count.old ≤ count.new }
+    ensures after { IfOk result (λ r. (e : Expression) → IsFormOf v.now.dims (whole v.now.dims (held v.now)) e form.now → IsAssigned target e v.now count.old count.new r) }
 {
+    v.known();
     match bounds_of_new(alloc, v, form)? {
         Bounds::Nothing => Ok(DecOct::bottom(v.dims())),
         Bounds::Few(bounds) => {
@@ -87,6 +104,7 @@ pub fn assign(
     ensures value { IfOk result (λ r. octagon r ≡ assign_value target (expr_at (exprs_in core.now) expr) (octagon v.now)) }
     ensures rises { count.old ≤ count.new }
     ensures count { IfOk result (λ r. AssignCosts v.now.dims (expr_at (exprs_in core.now) expr) v.now.blocks count.old count.new) }
+    ensures marks { IfOk result (λ r. AssignMarks v.now.dims target (expr_at (exprs_in core.now) expr) v.now.blocks r.blocks) }
 {
     if v.partition().is_none() {
         return Ok(DecOct::bottom(v.dims()));
@@ -111,6 +129,7 @@ pub fn copy(
     ensures value { IfOk result (λ r. octagon r ≡ assign_value target (Variable origin) (octagon v.now)) }
     ensures rises { count.old ≤ count.new }
     ensures count { IfOk result (λ r. AssignCosts v.now.dims (Variable origin) v.now.blocks count.old count.new) }
+    ensures marks { IfOk result (λ r. AssignMarks v.now.dims target (Variable origin) v.now.blocks r.blocks) }
 {
     if v.partition().is_none() {
         return Ok(DecOct::bottom(v.dims()));

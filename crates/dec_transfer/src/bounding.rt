@@ -1,5 +1,5 @@
 // The bounds of forms, as one list.
-ghost use Rattle.std.specs.Prelude.{◌≡◌, ℕ, ◌*◌, ◌<◌, IfOk, length};
+ghost use Rattle.std.specs.Prelude.{◌≡◌, ◌++◌, IfOk, length};
 ghost use Rattle.interval_form.specs.Sparse.{IsFormOver, form_in};
 ghost use Rattle.dec_transfer.specs.Listed.{AreBoth};
 
@@ -8,7 +8,9 @@ use memory::NoMemory;
 use std::alloc::Global;
 
 // The bounds of one list behind those of another.
-fn with_more(first: Vec<OctBound>, second: Vec<OctBound>) -> Result<Vec<OctBound>, NoMemory> {
+fn with_more(first: Vec<OctBound>, second: Vec<OctBound>) -> Result<Vec<OctBound>, NoMemory>
+    ensures { IfOk result (λ v. v.items ≡ first.items ++ second.items) }
+{
     let mut all = first;
     for k in 0..second.len() {
         let bound = second[k];

@@ -43,5 +43,6 @@ pub fn havoc(
     v.known();
     let origins = others(alloc, v.dims(), target)?;
     let after = renamed(alloc, v, &origins)?;
+    after.known();
     Ok(after)
 }

@@ -1,15 +1,21 @@
 // Tests of conditions. A comparison takes the bounds of a difference of forms and closes; the rest goes by the parts of
 // the condition.
 ghost use Rattle.std.specs.Prelude.{◌≡◌, ◌*◌, ◌<◌, ◌≤◌, true, false, IfOk, IfSome, IsSome, length};
+ghost use Rattle.std.specs.List.{All};
+ghost use Rattle.oct_def.specs.Tight.{tight};
 ghost use Rattle.oct_def.specs.Octagon.{Octagon, join_value};
 ghost use Rattle.spl_core.specs.Expression.{Expression, IsOver};
 ghost use Rattle.spl_core.specs.Condition.{IsConditionOver};
 ghost use Rattle.spl_core.specs.Graph.{expr_at, exprs_in, cond_at, conds_in};
 ghost use Rattle.interval_form.specs.Linear.{linear_form, difference_form};
 ghost use Rattle.interval_form.specs.Sparse.{IsFormOver, form_in};
+ghost use Rattle.interval_form.specs.Listed.{IsPlaced};
 ghost use Rattle.transfer_def.specs.Test.{at_most_value, below_value, equal_value, different_value, compare_value, constant_value, test_value};
-ghost use Rattle.dec_oct.specs.Value.{octagon};
+ghost use Rattle.dec_oct.specs.Value.{Decomposed, octagon, octagon_of, whole};
+ghost use Rattle.dec_oct.specs.Cost.{TellsAgainOf};
+ghost use Rattle.dec_parts.specs.Lower.{lowered_matrix};
 ghost use Rattle.dec_transfer.specs.Restricted.{restricted_value};
+ghost use Rattle.dec_transfer.specs.TestMarks.{IsApart, IsCompared, IsPassed, IsTested};
 
 use crate::ranges::ranges_of_all;
 use dec_lattice::join;
@@ -23,7 +29,8 @@ use std::alloc::Global;
 
 // The relation that holds where another one doesn't.
 fn contrary(relation: Cmp) -> Cmp
-    ensures { (a b : Expression) (v : Octagon) → compare_value result true a b v ≡ compare_value relation false a b v }
+    ensures value { (a b : Expression) (v : Octagon) → compare_value result true a b v ≡ compare_value relation false a b v }
+    ensures marks { (a b : Expression) (v r : Decomposed) → IsCompared result true a b v r → IsCompared relation false a b v r }
 {
     match relation {
         Cmp::Eq => Cmp::Ne,
@@ -37,7 +44,8 @@ fn contrary(relation: Cmp) -> Cmp
 
 // The relation that holds where another one comes out as wanted.
 fn asked(relation: Cmp, wanted: bool) -> Cmp
-    ensures { (a b : Expression) (v : Octagon) → compare_value result true a b v ≡ compare_value relation wanted a b v }
+    ensures value { (a b : Expression) (v : Octagon) → compare_value result true a b v ≡ compare_value relation wanted a b v }
+    ensures marks { (a b : Expression) (v r : Decomposed) → IsCompared result true a b v r → IsCompared relation wanted a b v r }
 {
     if wanted { relation } else { contrary(relation) }
 }
@@ -71,7 +79,12 @@ fn closed_with(
     count: &mut RowCount,
 ) -> Result<DecOct, NoMemory>
     requires not_bottom { IsSome v.now.blocks }
+    requires placed { All (IsPlaced v.now.dims) bounds.now }
+    ensures value { IfOk result (λ r. IfSome v.now.blocks (λ b. octagon r ≡ octagon_of v.now.dims (tight (lowered_matrix v.now.dims bounds.now (whole v.now.dims b))))) }
+    ensures marks { IfOk result (λ r. TellsAgainOf r.blocks) }
+    ensures rises { count.old ≤ count.new }
 {
+    v.known();
     let parts = lowered(alloc, v, bounds)?;
     let closed = DecOct::tight_of(alloc, parts, count)?;
     Ok(closed)
@@ -89,8 +102,10 @@ fn restricted(
     requires dims { v.now.dims ≡ length ranges.now }
     requires over { IsFormOver (length ranges.now) form.now }
     ensures value { IfOk result (λ r. octagon r ≡ restricted_value ranges.now (form_in (length ranges.now) form.now) (octagon v.now)) }
+    ensures marks { IfOk result (λ r. TellsAgainOf r.blocks) }
     ensures rises { count.old ≤ count.new }
 {
+    v.known();
     match form_constraints(alloc, form, ranges)? {
         Bounds::Nothing => Ok(DecOct::bottom(v.dims())),
         Bounds::Few(bounds) => {
@@ -115,6 +130,7 @@ fn at_most(
     requires over_first { IsOver v.now.dims (expr_at (exprs_in core.now) a) }
     requires over_second { IsOver v.now.dims (expr_at (exprs_in core.now) b) }
     ensures value { IfOk result (λ r. octagon r ≡ at_most_value (expr_at (exprs_in core.now) a) (expr_at (exprs_in core.now) b) (octagon v.now)) }
+    ensures marks { IfOk result (λ r. TellsAgainOf r.blocks) }
     ensures rises { count.old ≤ count.new }
 {
     if v.partition().is_none() {
@@ -141,6 +157,7 @@ fn below(
     requires over_first { IsOver v.now.dims (expr_at (exprs_in core.now) a) }
     requires over_second { IsOver v.now.dims (expr_at (exprs_in core.now) b) }
     ensures value { IfOk result (λ r. octagon r ≡ below_value (expr_at (exprs_in core.now) a) (expr_at (exprs_in core.now) b) (octagon v.now)) }
+    ensures marks { IfOk result (λ r. TellsAgainOf r.blocks) }
     ensures rises { count.old ≤ count.new }
 {
     if v.partition().is_none() {
@@ -169,6 +186,7 @@ fn equal(
     requires over_first { IsOver v.now.dims (expr_at (exprs_in core.now) a) }
     requires over_second { IsOver v.now.dims (expr_at (exprs_in core.now) b) }
     ensures value { IfOk result (λ r. octagon r ≡ equal_value (expr_at (exprs_in core.now) a) (expr_at (exprs_in core.now) b) (octagon v.now)) }
+    ensures marks { IfOk result (λ r. TellsAgainOf r.blocks) }
     ensures rises { count.old ≤ count.new }
 {
     let first = at_most(alloc, v, core, a, b, count)?;
@@ -191,10 +209,13 @@ fn different(
     requires over_first { IsOver v.now.dims (expr_at (exprs_in core.now) a) }
     requires over_second { IsOver v.now.dims (expr_at (exprs_in core.now) b) }
     ensures value { IfOk result (λ r. octagon r ≡ different_value (expr_at (exprs_in core.now) a) (expr_at (exprs_in core.now) b) (octagon v.now)) }
+    ensures marks { IfOk result (λ r. IsApart (expr_at (exprs_in core.now) a) (expr_at (exprs_in core.now) b) v.now r) }
     ensures rises { count.old ≤ count.new }
 {
     let less = below(alloc, v, core, a, b, count)?;
     let more = below(alloc, v, core, b, a, count)?;
+    less.known();
+    more.known();
     let either = join(alloc, &less, &more, count)?;
     Ok(either)
 }
@@ -215,6 +236,7 @@ fn compared(
     requires over_first { IsOver v.now.dims (expr_at (exprs_in core.now) a) }
     requires over_second { IsOver v.now.dims (expr_at (exprs_in core.now) b) }
     ensures value { IfOk result (λ r. octagon r ≡ compare_value relation true (expr_at (exprs_in core.now) a) (expr_at (exprs_in core.now) b) (octagon v.now)) }
+    ensures marks { IfOk result (λ r. IsCompared relation true (expr_at (exprs_in core.now) a) (expr_at (exprs_in core.now) b) v.now r) }
     ensures rises { count.old ≤ count.new }
 {
     match relation {
@@ -247,7 +269,8 @@ fn compared(
 
 // The value where a constant is as wanted: the value itself, shared, or Bottom.
 fn constant(v: &DecOct, value: bool, wanted: bool) -> Result<DecOct, NoMemory>
-    ensures { IfOk result (λ r. octagon r ≡ constant_value value wanted (octagon v.now)) }
+    ensures value { IfOk result (λ r. octagon r ≡ constant_value value wanted (octagon v.now)) }
+    ensures marks { IfOk result (λ r. IsPassed value wanted v.now r) }
 {
     v.known();
     if value == wanted {
@@ -272,6 +295,7 @@ pub fn test(
     requires known { cond < length core.now.conds }
     requires over { IsConditionOver v.now.dims (cond_at (conds_in core.now) cond) }
     ensures value { IfOk result (λ r. octagon r ≡ test_value (cond_at (conds_in core.now) cond) wanted (octagon v.now)) }
+    ensures marks { IfOk result (λ r. IsTested (cond_at (conds_in core.now) cond) wanted v.now r) }
     ensures rises { count.old ≤ count.new }
 {
     law_numbers();
@@ -294,23 +318,29 @@ pub fn test(
         }
         (CoreCond::And(c, d), true) => {
             let first = test(alloc, v, core, c, true, count)?;
+            first.known();
             let r = test(alloc, &first, core, d, true, count)?;
             Ok(r)
         }
         (CoreCond::And(c, d), false) => {
             let first = test(alloc, v, core, c, false, count)?;
             let second = test(alloc, v, core, d, false, count)?;
+            first.known();
+            second.known();
             let r = join(alloc, &first, &second, count)?;
             Ok(r)
         }
         (CoreCond::Or(c, d), true) => {
             let first = test(alloc, v, core, c, true, count)?;
             let second = test(alloc, v, core, d, true, count)?;
+            first.known();
+            second.known();
             let r = join(alloc, &first, &second, count)?;
             Ok(r)
         }
         (CoreCond::Or(c, d), false) => {
             let first = test(alloc, v, core, c, false, count)?;
+            first.known();
             let r = test(alloc, &first, core, d, false, count)?;
             Ok(r)
         }

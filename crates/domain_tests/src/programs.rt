@@ -1,9 +1,14 @@
 //! Programs from a seed.
+ghost use Rattle.std.specs.Prelude.{◌<◌};
 
+use crate::random::Random;
 use std::alloc::{AllocError, Global};
 
 /// The variables of main, and of the procedure, whose first two are inputs and whose next two are outputs.
 const NAMES: [&str; 6] = ["a", "b", "c", "d", "e", "f"];
+
+/// What comes before the statements of main.
+const VARIABLES: &str = "var a:int, b:int, c:int, d:int, e:int, f:int;\nbegin\n";
 
 const CONSTANTS: [&str; 8] = [
     "0",
@@ -18,30 +23,27 @@ const CONSTANTS: [&str; 8] = [
 
 const RELATIONS: [&str; 6] = ["==", "!=", "<", "<=", ">", ">="];
 
-/// A text that grows, and the seed of what comes next.
+/// A text that grows by random choices.
 #[derive(Drop)]
-pub struct Writer {
+pub(crate) struct Writer {
     text: String,
-    seed: u64,
+    random: Random,
 }
 
 impl Writer {
-    pub fn new(alloc: Global, seed: u64) -> Writer {
+    pub(crate) fn new(alloc: Global, seed: u64) -> Writer {
         Writer {
             text: String::new(alloc),
-            seed,
+            random: Random::new(seed),
         }
     }
 
-    /// A number below n, by the next seed.
-    fn choose(&mut self, n: u64) -> usize
+    /// A number below n.
+    fn choose(&mut self, n: u32) -> u32
         requires { 0 < n }
+        ensures { result < n }
     {
-        self.seed = self
-            .seed
-            .wrapping_mul(6364136223846793005)
-            .wrapping_add(1442695040888963407);
-        ((self.seed >> 33) % n) as usize
+        self.random.below(n)
     }
 
     fn put(&mut self, text: &str) -> Result<(), AllocError> {
@@ -51,24 +53,25 @@ impl Writer {
 
     fn variable(&mut self) -> Result<(), AllocError> {
         let k = self.choose(6);
-        self.put(NAMES[k])
+        self.put(NAMES[k as usize])
     }
 
     fn atom(&mut self) -> Result<(), AllocError> {
         if self.choose(3) == 0 {
             let k = self.choose(8);
-            return self.put(CONSTANTS[k]);
+            return self.put(CONSTANTS[k as usize]);
         }
         self.variable()
     }
 
-    /// A number: atoms with signs between them.
+    /// A number: at most three atoms with signs between them, mostly one.
     fn number(&mut self) -> Result<(), AllocError> {
         if self.choose(6) == 0 {
             self.put("-")?;
         }
         self.atom()?;
-        for _ in 0..self.choose(3) {
+        let more = self.choose(5) / 2;
+        for _ in 0..more {
             match self.choose(6) {
                 0 => self.put(" * ")?,
                 1 => self.put(" - ")?,
@@ -87,7 +90,7 @@ impl Writer {
         self.number()?;
         let k = self.choose(6);
         self.put(" ")?;
-        self.put(RELATIONS[k])?;
+        self.put(RELATIONS[k as usize])?;
         self.put(" ")?;
         self.number()
     }
@@ -111,9 +114,9 @@ impl Writer {
         let first = self.choose(6);
         let second = (first + 1 + self.choose(5)) % 6;
         self.put("(")?;
-        self.put(NAMES[first])?;
+        self.put(NAMES[first as usize])?;
         self.put(", ")?;
-        self.put(NAMES[second])?;
+        self.put(NAMES[second as usize])?;
         self.put(") = p(")?;
         self.variable()?;
         self.put(", ")?;
@@ -132,20 +135,50 @@ impl Writer {
         self.put(";\n")
     }
 
+    fn assumption(&mut self) -> Result<(), AllocError> {
+        self.put("assume ")?;
+        self.condition()?;
+        self.put(";\n")
+    }
+
+    /// A bound of a variable, or of the sum or difference of two, that 0 meets.
+    fn bound(&mut self) -> Result<(), AllocError> {
+        self.variable()?;
+        match self.choose(3) {
+            0 => self.put(" + ")?,
+            1 => self.put(" - ")?,
+            _ => self.put(" + 0 * ")?,
+        }
+        self.variable()?;
+        match self.choose(2) {
+            0 => self.put(" <= ")?,
+            _ => self.put(" >= -")?,
+        }
+        let k = self.choose(8);
+        self.put(CONSTANTS[k as usize])
+    }
+
+    /// The assumption of three bounds.
+    fn bounds(&mut self) -> Result<(), AllocError> {
+        self.put("assume ")?;
+        self.bound()?;
+        self.put(" and ")?;
+        self.bound()?;
+        self.put(" and ")?;
+        self.bound()?;
+        self.put(";\n")
+    }
+
     fn simple(&mut self) -> Result<(), AllocError> {
         match self.choose(6) {
-            0 => {
-                self.put("assume ")?;
-                self.condition()?;
-                self.put(";\n")
-            }
+            0 => self.assumption(),
             1 => self.call(),
             _ => self.assignment(),
         }
     }
 
     /// So many statements that have none inside.
-    fn simples(&mut self, count: usize) -> Result<(), AllocError> {
+    fn simples(&mut self, count: u32) -> Result<(), AllocError> {
         for _ in 0..count {
             self.simple()?;
         }
@@ -173,7 +206,7 @@ impl Writer {
         self.put("done;\n")
     }
 
-    fn statements(&mut self, count: usize) -> Result<(), AllocError> {
+    fn statements(&mut self, count: u32) -> Result<(), AllocError> {
         for _ in 0..count {
             match self.choose(6) {
                 0 => self.branch()?,
@@ -184,12 +217,36 @@ impl Writer {
         Ok(())
     }
 
+    /// A program over six variables that has so many assignments alone.
+    pub(crate) fn assignments(mut self, count: u32) -> Result<String, AllocError> {
+        self.put(VARIABLES)?;
+        for _ in 0..count {
+            self.assignment()?;
+        }
+        self.put("end\n")?;
+        Ok(self.text)
+    }
+
+    /// A program over six variables that has so many assumptions alone.
+    pub(crate) fn assumptions(mut self, count: u32) -> Result<String, AllocError> {
+        self.put(VARIABLES)?;
+        for _ in 0..count {
+            match self.choose(4) {
+                0 => self.assumption()?,
+                _ => self.bounds()?,
+            }
+        }
+        self.put("end\n")?;
+        Ok(self.text)
+    }
+
     /// The whole program: the procedure p, which may call itself, and main.
-    pub fn program(mut self) -> Result<String, AllocError> {
+    pub(crate) fn program(mut self) -> Result<String, AllocError> {
         self.put("proc p(a:int, b:int) returns (c:int, d:int)\nvar e:int, f:int;\nbegin\n")?;
         let count = 1 + self.choose(5);
         self.statements(count)?;
-        self.put("end\nvar a:int, b:int, c:int, d:int, e:int, f:int;\nbegin\n")?;
+        self.put("end\n")?;
+        self.put(VARIABLES)?;
         let count = 3 + self.choose(8);
         self.statements(count)?;
         self.put("end\n")?;

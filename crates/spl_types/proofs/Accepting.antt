@@ -1,6 +1,6 @@
 -- A whole program, procedure by procedure.
 use Rattle.std.proofs.Common.{◌≡◌, ℕ, suc, zero, ◌+◌, ◌<◌, ◌≤◌, Bool, List, [], ◌∷◌, ◌++◌, length, take, drop, map, get_or, Result, Ok, Err, None, IsErrAnd, IfErr, refl, sym, ap, ◌∙◌, subst, arith, append_assoc, length-append}
-use Rattle.std.proofs.lemmas.List.{take_more, take_all, length-map, map-append, append-nil, get_or-map}
+use Rattle.std.proofs.lemmas.List.{take_more, length-map, map-append, append-nil, get_or-map}
 use Rattle.std.proofs.lemmas.List.Sums.{length-filter}
 use Rattle.spl_tree.specs.Program.{Declared, StmtTree, skip, halt, fail, assume, assign, call, if_then, if_else, while_do, BlockTree, empty, more, ProcMeaning, Program}
 use Rattle.spl_types.specs.declared.fault.CheckFault.{CheckFault}
@@ -85,9 +85,6 @@ pub record ProcsSoFar (procs : List ProcMeaning) (p points : ℕ) (cs : List Cop
   pub some : p ≤ 256
   pub stored : copies_in cs ≡ map copies_of (map procedure_of (take p procs))
 
-pub no_procs : (procs : List ProcMeaning) (cs : List Copies) → cs ≡ [] → ProcsSoFar procs 0 0 cs
-no_procs procs cs e = record { kept = refl; met = refl; few = omega arith; some = omega arith; stored = ap copies_in e }
-
 abbrev pub NextProc : List ProcMeaning → ℕ → ℕ → Result Walk CheckFault → Type 0
 NextProc procs p points r = (d : ProcMeaning) → AnswersWith r (named_checks procs (proc_names (take p procs)) points (get_or procs p d)) (λ w. (p < 256) × HasMet (scope_of procs (procedure_of (get_or procs p d))) (met_by_end points (procedure_of (get_or procs p d))) w)
 
@@ -136,12 +133,6 @@ next_proc_fault procs p points cs r y lt o g h =
     ∙ ap (λ n. proc_checks procs [] 0 (take p procs) ++ proc_checks procs so n (x ∷ drop (suc p) procs)) (sym h.met)) in
     let P : List Check → Type 0 = λ l. Faulted l y in
     subst P (sym q) (faulted_then (proc_checks procs [] 0 (take p procs)) (named_checks procs so points x ++ rest) y h.kept (faulted_first (named_checks procs so points x) rest y f))
-
-pub all_procs : (procs : List ProcMeaning) (p points : ℕ) (cs : List Copies) → length procs ≤ p → p ≤ length procs → ProcsSoFar procs p points cs → Kept (proc_checks procs [] 0 procs) × ((points ≡ points_after 0 procs) × (points ≤ 4096) × (length procs ≤ 256) × (copies_in cs ≡ map copies_of (map procedure_of procs)))
-all_procs procs p points cs ge le h =
-    let P : List ProcMeaning → Type 0 = λ l. Kept (proc_checks procs [] 0 l) × ((points ≡ points_after 0 l) × (points ≤ 4096) × (length procs ≤ 256) × (copies_in cs ≡ map copies_of (map procedure_of l))) in
-    let few : length procs ≤ 256 = omega (arith, h.some) in
-    subst P (take_all p procs ge) (h.kept, (h.met, h.few, few, h.stored))
 
 -- copies by their numbers
 small_at : (cs : List Copies) (k : ℕ) (d : List Bool × ℕ) → k < length cs → (get_or (copies_in cs) k d).1 ≤ 128

@@ -1,6 +1,6 @@
 -- Blocks, statement by statement, and how deep they nest.
 use Rattle.std.proofs.Common.{◌≡◌, ℕ, suc, zero, ◌+◌, ◌<◌, ◌≤◌, max, List, [], ◌∷◌, ◌++◌, length, take, drop, get_or, Option, Some, None, Result, Ok, Err, refl, sym, ap, ◌∙◌, subst, arith}
-use Rattle.std.proofs.lemmas.List.{take_more, take_all}
+use Rattle.std.proofs.lemmas.List.{take_more}
 use Rattle.spl_tree.specs.declared.parts.StmtId.{StmtId}
 use Rattle.spl_tree.specs.declared.parts.Block.{Block}
 use Rattle.spl_tree.specs.declared.parts.Stmt.{Stmt}
@@ -148,8 +148,3 @@ stmt_fault c m start trees ids i s w w' r y lt e o g h =
     ∙ ap (λ z. block_after trees (more b (stmt_at trees z)) (drop (suc i) ids)) e) in
     let P : BlockTree → Type 0 = λ z. Faulted (block_checks c m start z) y in
     subst P (sym whole) (fault_stays c m start trees (more b x) (drop (suc i) ids) y here)
-
-pub all_stmts : (c : Scope) (m : Met) (start : ℕ) (trees : List StmtTree) (ids : List StmtId) (i : ℕ) (w : Walk) → length ids ≤ i → StmtsSoFar c m start (first_stmts trees ids i) w → Kept (block_checks c m start (block_after trees empty ids)) × HasMet c (met_by m (block_after trees empty ids)) w
-all_stmts c m start trees ids i w le h =
-    let P : List StmtId → Type 0 = λ l. Kept (block_checks c m start (block_after trees empty l)) × HasMet c (met_by m (block_after trees empty l)) w in
-    subst P (take_all i ids le) (h.kept, h.met)

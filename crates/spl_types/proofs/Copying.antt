@@ -18,9 +18,6 @@ use Rattle.spl_types.proofs.Places.{FirstAt, place_found, any_along}
 no_true : true ≡ false → ⊥
 no_true q = cc
 
-no_false : false ≡ true → ⊥
-no_false q = cc
-
 or_right : (a b : Bool) → (a || b) ≡ false → (a ≡ false) × (b ≡ false)
 or_right true b h = absurd (no_true h)
 or_right false b h = (refl, h)

@@ -64,10 +64,6 @@ pub answers_then : {X : Type 0} (r : Result X CheckFault) (xs ys : List Check) �
 answers_then (Ok v) xs ys k h = kept_append xs ys k h
 answers_then (Err e) xs ys k h = faulted_then xs ys e k h
 
-pub answers_same : {X : Type 0} (r : Result X CheckFault) (xs ys : List Check) → first_broken xs ≡ first_broken ys → Answers r xs → Answers r ys
-answers_same (Ok v) xs ys s h = sym s ∙ h
-answers_same (Err e) xs ys s h = faulted_same xs ys e s h
-
 -- the exit of a `?`
 pub faulted_exit : {X : Type 0} (P : X → Type 0) (r : Result X CheckFault) (e : CheckFault) (cs : List Check) → IsErrAnd r (λ y. y ≡ e) → Faulted cs e → MatchResult r P (Faulted cs)
 faulted_exit P (Ok v) e cs h f = absurd h

@@ -1,6 +1,6 @@
 -- The names of dimensions, one by one.
-use Rattle.std.proofs.Common.{◌≡◌, ℕ, ◌+◌, ◌<◌, ◌≤◌, Bool, false, if◌then◌else◌, List, [], ◌∷◌, ◌++◌, length, take, map, filter, get_or, codes, Result, Ok, OnOk, sym, ap, ◌∙◌, subst, arith, append_assoc}
-use Rattle.std.proofs.lemmas.List.{take_more, take_all, length-map, map-append, get_or-map}
+use Rattle.std.proofs.Common.{◌≡◌, ℕ, ◌+◌, ◌<◌, Bool, false, if◌then◌else◌, List, [], ◌∷◌, ◌++◌, length, take, map, filter, get_or, codes, Result, Ok, OnOk, sym, ap, ◌∙◌, subst, arith, append_assoc}
+use Rattle.std.proofs.lemmas.List.{take_more, length-map, map-append, get_or-map}
 use Rattle.std.proofs.lemmas.List.Elements.{filter-append}
 use Rattle.spl_tree.specs.Program.{Declared}
 use Rattle.spl_types.specs.Checks.{is_among, declared_names, Procedure}
@@ -16,9 +16,6 @@ plain_so old now new ds i x lt e h g =
     g ∙ (ap (λ l. l ++ x ∷ []) h
     ∙ (append_assoc old (declared_names (take i ds)) (x ∷ [])
     ∙ ap (λ l. old ++ l) (ap (λ y. declared_names (take i ds) ++ y ∷ []) e ∙ sym (declared_more ds i lt))))
-
-pub plain_all : (old now : List (List ℕ)) (ds : List Declared) (i : ℕ) → length ds ≤ i → now ≡ old ++ declared_names (take i ds) → now ≡ old ++ declared_names ds
-plain_all old now ds i le h = h ∙ ap (λ l. old ++ declared_names l) (take_all i ds le)
 
 -- whether an input is a target, by its flag
 flag_at : (flags : List Bool) (targets : List (List ℕ)) (ds : List Declared) (i : ℕ) (x : List ℕ) (b : Bool) → i < length ds → flags ≡ map (λ y. is_among y targets) (declared_names ds) → b ≡ get_or flags i false → x ≡ (get_or ds i no_decl).name.name → b ≡ is_among x targets
@@ -41,9 +38,6 @@ inputs_so flags targets old now new ds i x b lt f g e h k =
     ∙ (append_assoc old (map (input_name targets) (declared_names (take i ds))) ((if b then x ++ codes "@" else x) ∷ [])
     ∙ ap (λ l. old ++ l) (ap (λ y. map (input_name targets) (declared_names (take i ds)) ++ y ∷ []) named ∙ sym more)))
 
-pub inputs_all : (targets old now : List (List ℕ)) (ds : List Declared) (i : ℕ) → length ds ≤ i → now ≡ old ++ map (input_name targets) (declared_names (take i ds)) → now ≡ old ++ map (input_name targets) (declared_names ds)
-inputs_all targets old now ds i le h = h ∙ ap (λ l. old ++ map (input_name targets) (declared_names l)) (take_all i ds le)
-
 -- names of copies
 pub copies_so : (flags : List Bool) (targets old now new : List (List ℕ)) (ds : List Declared) (i : ℕ) (x : List ℕ) (b : Bool) → i < length ds → flags ≡ map (λ y. is_among y targets) (declared_names ds) → b ≡ get_or flags i false → x ≡ (get_or ds i no_decl).name.name
     → now ≡ old ++ filter (λ y. is_among y targets) (declared_names (take i ds)) → new ≡ now ++ (if b then x ∷ [] else []) → new ≡ old ++ filter (λ y. is_among y targets) (declared_names (take (i + 1) ds))
@@ -57,9 +51,6 @@ copies_so flags targets old now new ds i x b lt f g e h k =
     k ∙ (ap (λ l. l ++ (if b then x ∷ [] else [])) h
     ∙ (append_assoc old (filter (λ z. is_among z targets) (declared_names (take i ds))) (if b then x ∷ [] else [])
     ∙ ap (λ l. old ++ l) (ap (λ l. filter (λ z. is_among z targets) (declared_names (take i ds)) ++ l) one ∙ sym more)))
-
-pub copies_all : (targets old now : List (List ℕ)) (ds : List Declared) (i : ℕ) → length ds ≤ i → now ≡ old ++ filter (λ y. is_among y targets) (declared_names (take i ds)) → now ≡ old ++ filter (λ y. is_among y targets) (declared_names ds)
-copies_all targets old now ds i le h = h ∙ ap (λ l. old ++ filter (λ y. is_among y targets) (declared_names l)) (take_all i ds le)
 
 -- all names
 pub on_ok : {X E : Type 0} (r : Result X E) (P : Type 0) (v : X) → r ≡ Ok v → OnOk r P → P

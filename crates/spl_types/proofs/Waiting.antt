@@ -6,16 +6,16 @@ use Rattle.std.proofs.lemmas.List.Sums.{sum_by-append}
 use Rattle.spl_tree.specs.declared.parts.BinOp.{BinOp}
 use Rattle.spl_tree.specs.declared.parts.Expr.{Expr}
 use Rattle.spl_tree.specs.declared.parts.ExprId.{ExprId}
-use Rattle.spl_tree.specs.Program.{ExprTree, number, variable, true_value, false_value, random_value, negative, opposite, binary}
+use Rattle.spl_tree.specs.Program.{ExprTree, binary}
 use Rattle.spl_tree.specs.Meaning.{expr_at}
 use Rattle.spl_types.specs.declared.fault.CheckFault.{CheckFault}
 use Rattle.spl_types.specs.declared.fault.CheckFault.TheVariants.{NoMemory}
 use Rattle.spl_types.specs.declared.fault.CheckRule.TheVariants.{UnsupportedOperator}
 use Rattle.spl_types.specs.declared.exprs.Sort.{Sort as CodeSort}
 use Rattle.spl_types.specs.declared.exprs.Wanted.{Wanted}
-use Rattle.spl_types.specs.Checks.{Check, check, first_broken, Sort, operand_sort, is_division, expr_checks, sort_check}
+use Rattle.spl_types.specs.Checks.{Check, check, first_broken, operand_sort, is_division, expr_checks}
 use Rattle.spl_types.specs.Faults.{Kept, Faulted}
-use Rattle.spl_types.specs.Sorts.{sort_of, own_sort, inner_checks, node_count, waiting_checks, waiting_count, AreThere, LeavesChildren, Pushed}
+use Rattle.spl_types.specs.Sorts.{sort_of, inner_checks, node_count, waiting_checks, waiting_count, AreThere, LeavesChildren, Pushed}
 use Rattle.spl_types.proofs.Firsts.{broken_after}
 
 -- the checks of one item
@@ -70,17 +70,6 @@ leaves_two names trees exprs op at s a b old mid new (Ok v) there la lb e k m h 
       omega (arith, ap (λ l. waiting_count trees l) h, count_push trees mid wa, ap (λ l. waiting_count trees l) m, count_push trees old wb),
     )
 leaves_two names trees exprs op at s a b old mid new (Err e) there la lb q k m h = no_memory (inner_checks names (binary op (expr_at trees a) (expr_at trees b) at) ++ waiting_checks names trees old) e h
-
--- an expression's own sort is checked first
-pub sort_first : (names : List (List ℕ)) (wanted : Sort) (e : ExprTree) → (at : ℕ) × (expr_checks names wanted e ≡ sort_check wanted (own_sort e) at ∷ inner_checks names e)
-sort_first names wanted (number n at) = (at, refl)
-sort_first names wanted (variable x at) = (at, refl)
-sort_first names wanted (true_value at) = (at, refl)
-sort_first names wanted (false_value at) = (at, refl)
-sort_first names wanted (random_value at) = (at, refl)
-sort_first names wanted (negative a at) = (at, refl)
-sort_first names wanted (opposite a at) = (at, refl)
-sort_first names wanted (binary op a b at) = (at, refl)
 
 -- the item on top
 pub popped : (names : List (List ℕ)) (trees : List ExprTree) (items rest : List Wanted) (w : Wanted) → items ≡ rest ++ w ∷ [] → waiting_checks names trees items ≡ checks_of names trees w ++ waiting_checks names trees rest

@@ -1,8 +1,10 @@
-use Rattle.std.proofs.Common.{◌≡◌, ◌<◌, ◌≤◌, ◌%◌, ◌++◌, [], length, drop, sym, ap, ◌∙◌, arith, length-append, length-drop}
+use Rattle.std.proofs.Common.{◌≡◌, ◌<◌, ◌≤◌, ◌++◌, [], length, drop, sym, ap, ◌∙◌, arith, length-append, length-drop}
 use Rattle.std.proofs.lemmas.List.{get_or-drop}
 use Rattle.control_points.specs.Building.{Building}
 use Rattle.control_points.specs.Emitting.{copies_named}
 use Rattle.spl_core.specs.Graph.{pairs_in}
+use Rattle.control_points.proofs.Stretching.{same_then}
+use Rattle.control_points.proofs.Lengthening.{two_longer}
 use Rattle.control_points.proofs.Storing.{adds_nothing, span_stands}
 use Rattle.control_points.proofs.Starting.{flat, flat_pairs, flat_even, pairs_more, all_pairs}
 use Rattle.control_points.proofs.builder.Builder.push_pairs.Goals as goal
@@ -15,6 +17,8 @@ loop-k-preserved c =
     record {
       dims = pairs_more sp xs c.loop-k.k c.dimension.result c.declaration.result c.name-name.result.now c.args.self.now.parts.dims c.loop-k.self.parts.dims c.push_dim.new.self.parts.dims c.push_dim-in-loop-k.new.self.parts.dims lt
           (get_or-drop c.args.from c.args.names.now c.loop-k.k [] ∙ sym c.name-name.ensures) c.dimension.ensures c.declaration.ensures c.loop-k.invariant.dims c.in_ok-push_dim.ensures.pushed c.in_ok-push_dim-2.ensures.pushed;
+      sizes = two_longer c.loop-k.k c.args.self.now c.loop-k.self c.push_dim.new.self c.push_dim-in-loop-k.new.self c.loop-k.invariant.sizes c.in_ok-push_dim.ensures.sizes c.in_ok-push_dim-2.ensures.sizes;
+      same = same_then c.args.self.now c.push_dim.new.self c.push_dim-in-loop-k.new.self (same_then c.args.self.now c.loop-k.self c.push_dim.new.self c.loop-k.invariant.same c.in_ok-push_dim.ensures.same) c.in_ok-push_dim-2.ensures.same;
       adds = adds_nothing c.args.self.now.points c.args.self.now c.push_dim.new.self c.push_dim-in-loop-k.new.self
           (adds_nothing c.args.self.now.points c.args.self.now c.loop-k.self c.push_dim.new.self c.loop-k.invariant.adds c.in_ok-push_dim.ensures.adds) c.in_ok-push_dim-2.ensures.adds;
     }

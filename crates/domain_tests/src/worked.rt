@@ -1,0 +1,184 @@
+//! Worked values in both domains: every entry, and the blocks that a random assignment leaves.
+ghost use Rattle.std.specs.Prelude.{◌≡◌, ◌<◌, IfOk};
+
+use crate::cores::{core_in, main_dims};
+use crate::straight::at_end;
+use crate::views::view;
+use dec_domain::DecDomain;
+use dec_oct::DecOct;
+use dec_transfer::{copy, havoc};
+use domain::Domain;
+use full_oct::FullDomain;
+use minplus_lanes::RowCount;
+use oct_def::NoMemory;
+use std::alloc::Global;
+use std::test::Fail;
+
+/// Two branches, and their join: `0 <= x <= 1` and `x - y = 0`.
+const BRANCHES: (&str, &str, &str) = (
+    "var x:int, y:int; begin x = 0; y = 0; end",
+    "var x:int, y:int; begin x = 1; y = 1; end",
+    "0 1 0; 0 2 0; 0 3 0; 1 0 2; 1 2 2; 1 3 0; 2 0 0; 2 1 0; 2 3 0; 3 0 2; 3 1 0; 3 2 2; ",
+);
+
+/// Two pairs of related variables, and the bounds of one variable of each.
+const PAIRS: (&str, &str, &str) = (
+    "var a:int, b:int, c:int, d:int; begin b = a + 1; d = c + 1; end",
+    "var a:int, b:int, c:int, d:int; begin assume a >= 0 and a <= 1; end",
+    "var a:int, b:int, c:int, d:int; begin assume c >= 0 and c <= 1; end",
+);
+
+/// What the pairs and the bounds say, and its closing: bounds of all four variables, and of each two of them.
+const CLOSING: (&str, &str) = (
+    "0 1 0; 0 2 1; 1 0 2; 1 3 -1; 2 0 -1; 3 1 1; 4 5 0; 4 6 1; 5 4 2; 5 7 -1; 6 4 -1; 7 5 1; ",
+    "0 1 0; 0 2 1; 0 3 -1; 0 4 1; 0 5 0; 0 6 2; 0 7 -1; 1 0 2; 1 2 3; 1 3 -1; 1 4 2; 1 5 1; 1 6 3; 1 7 0; 2 0 -1; 2 1 -1; 2 3 -2; 2 4 0; 2 5 -1; 2 6 1; 2 7 -2; 3 0 3; 3 1 1; 3 2 4; 3 4 3; 3 5 2; 3 6 4; 3 7 1; 4 0 1; 4 1 0; 4 2 2; 4 3 -1; 4 5 0; 4 6 1; 4 7 -1; 5 0 2; 5 1 1; 5 2 3; 5 3 0; 5 4 2; 5 6 3; 5 7 -1; 6 0 0; 6 1 -1; 6 2 1; 6 3 -2; 6 4 -1; 6 5 -1; 6 7 -2; 7 0 3; 7 1 2; 7 2 4; 7 3 1; 7 4 3; 7 5 1; 7 6 4; ",
+);
+
+/// Three equal variables, of which the first becomes any integer: the others stay equal.
+const SPLITTING: (&str, &str) = (
+    "var x:int, y:int, z:int; begin y = x; z = x; x = random; end",
+    "2 4 0; 3 5 0; 4 2 0; 5 3 0; ",
+);
+
+/// The value at the end of a straight program with so many variables.
+fn end_of<D: Domain>(alloc: Global, dom: &mut D, text: &str, dims: u32) -> Result<D::V, Fail>
+    ensures dims { IfOk result (λ r. (D.meaning r).dims ≡ dims) }
+{
+    let core = core_in(alloc, text.as_bytes())?;
+    if main_dims(&core) != dims {
+        return Err("the program has other variables".into());
+    }
+    let end = at_end(alloc, dom, &core)?;
+    Ok(end)
+}
+
+/// The join of the branches.
+fn joined<D: Domain>(alloc: Global, dom: &mut D) -> Result<D::V, Fail>
+    ensures dims { IfOk result (λ r. (D.meaning r).dims ≡ 2) }
+{
+    let first = end_of(alloc, dom, BRANCHES.0, 2)?;
+    let second = end_of(alloc, dom, BRANCHES.1, 2)?;
+    let join = dom.join(alloc, &first, &second)?;
+    Ok(join)
+}
+
+/// The pairs with the bounds, by narrowing, which closes nothing.
+fn paired<D: Domain>(alloc: Global, dom: &mut D) -> Result<D::V, Fail>
+    ensures dims { IfOk result (λ r. (D.meaning r).dims ≡ 4) }
+{
+    let pairs = end_of(alloc, dom, PAIRS.0, 4)?;
+    let first = end_of(alloc, dom, PAIRS.1, 4)?;
+    let second = end_of(alloc, dom, PAIRS.2, 4)?;
+    let bounded = narrowed(alloc, dom, &pairs, &first)?;
+    let both = narrowed(alloc, dom, &bounded, &second)?;
+    Ok(both)
+}
+
+/// The narrowing of two values over four variables.
+fn narrowed<D: Domain>(alloc: Global, dom: &mut D, a: &D::V, b: &D::V) -> Result<D::V, Fail>
+    requires a { (D.meaning a.now).dims ≡ 4 }
+    requires b { (D.meaning b.now).dims ≡ 4 }
+    ensures dims { IfOk result (λ r. (D.meaning r).dims ≡ 4) }
+{
+    let narrowing = dom.narrow(alloc, a, b)?;
+    Ok(narrowing)
+}
+
+/// The closing of a value over four variables.
+fn closed<D: Domain>(alloc: Global, dom: &mut D, v: &D::V) -> Result<D::V, Fail>
+    requires dims { (D.meaning v.now).dims ≡ 4 }
+    ensures dims { IfOk result (λ r. (D.meaning r).dims ≡ 4) }
+{
+    let close = dom.close(alloc, v)?;
+    Ok(close)
+}
+
+#[test]
+fn a_join_keeps_what_both_branches_say(rt: HostRuntime) -> Result<(), Fail> {
+    let alloc = rt.alloc();
+    let mut full = FullDomain::new();
+    let mut dec = DecDomain::new();
+    let plain = joined(alloc, &mut full)?;
+    let blocks = joined(alloc, &mut dec)?;
+    assert_eq!(&rt; view(alloc, &full, &plain, 2)?.as_str(), BRANCHES.2);
+    assert_eq!(&rt; view(alloc, &dec, &blocks, 2)?.as_str(), BRANCHES.2);
+    Ok(())
+}
+
+#[test]
+fn closing_joins_blocks(rt: HostRuntime) -> Result<(), Fail> {
+    let alloc = rt.alloc();
+    let mut full = FullDomain::new();
+    let mut dec = DecDomain::new();
+    let plain = paired(alloc, &mut full)?;
+    let blocks = paired(alloc, &mut dec)?;
+    assert_eq!(&rt; view(alloc, &full, &plain, 4)?.as_str(), CLOSING.0);
+    assert_eq!(&rt; view(alloc, &dec, &blocks, 4)?.as_str(), CLOSING.0);
+    let plain = closed(alloc, &mut full, &plain)?;
+    let blocks = closed(alloc, &mut dec, &blocks)?;
+    assert_eq!(&rt; view(alloc, &full, &plain, 4)?.as_str(), CLOSING.1);
+    assert_eq!(&rt; view(alloc, &dec, &blocks, 4)?.as_str(), CLOSING.1);
+    Ok(())
+}
+
+#[test]
+fn a_random_assignment_leaves_the_others_equal(rt: HostRuntime) -> Result<(), Fail> {
+    let alloc = rt.alloc();
+    let (text, want) = SPLITTING;
+    let mut full = FullDomain::new();
+    let mut dec = DecDomain::new();
+    let plain = end_of(alloc, &mut full, text, 3)?;
+    let blocks = end_of(alloc, &mut dec, text, 3)?;
+    assert_eq!(&rt; view(alloc, &full, &plain, 3)?.as_str(), want);
+    assert_eq!(&rt; view(alloc, &dec, &blocks, 3)?.as_str(), want);
+    Ok(())
+}
+
+/// The value of three equal variables, in blocks.
+fn equal_variables(alloc: Global) -> Result<DecOct, NoMemory>
+    ensures dims { IfOk result (λ r. r.dims ≡ 3) }
+{
+    let top = DecOct::top(alloc, 3)?;
+    let pair = copied(alloc, &top, 1)?;
+    let all = copied(alloc, &pair, 2)?;
+    Ok(all)
+}
+
+/// The value of three variables after one became a copy of the first.
+fn copied(alloc: Global, v: &DecOct, target: u32) -> Result<DecOct, NoMemory>
+    requires dims { v.now.dims ≡ 3 }
+    requires target { target < 3 }
+    ensures dims { IfOk result (λ r. r.dims ≡ 3) }
+{
+    let mut count = RowCount::new();
+    let w = copy(alloc, v, target, 0, &mut count)?;
+    Ok(w)
+}
+
+/// The first of a value's blocks, and how many there are.
+fn first_block(v: &DecOct) -> (&[u32], u32) {
+    match v.partition() {
+        None => (&[], 0),
+        Some(p) => {
+            if p.len() == 0 {
+                (&[], 0)
+            } else {
+                (p.block(0), p.len())
+            }
+        }
+    }
+}
+
+#[test]
+fn a_random_assignment_splits_a_block(rt: HostRuntime) -> Result<(), Fail> {
+    let equal = equal_variables(rt.alloc())?;
+    let (members, blocks) = first_block(&equal);
+    assert_eq!(&rt; members, [0, 1, 2].as_slice());
+    assert_eq!(&rt; blocks, 1);
+    let mut count = RowCount::new();
+    let v = havoc(rt.alloc(), &equal, 0, &mut count)?;
+    let (members, blocks) = first_block(&v);
+    assert_eq!(&rt; members, [1, 2].as_slice());
+    assert_eq!(&rt; blocks, 1);
+    Ok(())
+}
