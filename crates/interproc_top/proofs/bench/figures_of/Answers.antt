@@ -1,4 +1,4 @@
-use Rattle.std.proofs.Common.{ℕ, ◌-◌, ap₂}
+use Rattle.std.proofs.Common.{◌-◌, ap₂}
 use Rattle.spl_tree.specs.Meaning.{program_of}
 use Rattle.interproc_top.proofs.Benched.{exit-in, exit-dims, figures-are}
 use Rattle.interproc_top.proofs.bench.figures_of.Goals as goal
