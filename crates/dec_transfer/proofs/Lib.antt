@@ -1,7 +1,6 @@
 pub mod Forgotten
 pub mod Lowering
 pub mod Restricting
-pub mod Conditions
 pub mod Tested
 pub mod Costs
 pub mod NewVariable

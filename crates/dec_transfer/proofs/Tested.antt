@@ -1,19 +1,17 @@
 -- Tests on values in blocks.
-use Rattle.std.proofs.Common.{◌≡◌, ℕ, List, Option, Some, None, refl, ap, ◌∙◌, length, subst, sym, negsuc, Bool}
+use Rattle.std.proofs.Common.{◌≡◌, ℕ, List, Option, Some, None, refl, ap, ◌∙◌, length, subst, sym, negsuc}
 use Rattle.std.specs.Prelude.{IfSome, IsSome}
-use Rattle.oct_def.specs.Octagon.{Octagon, bottom_value}
+use Rattle.oct_def.specs.Octagon.{bottom_value}
 use Rattle.spl_core.specs.Expression.{Expression, IsOver}
-use Rattle.spl_core.specs.Condition.{Condition}
 use Rattle.interval_form.specs.declared.interval.Interval.{Interval}
 use Rattle.interval_form.specs.Interval.{point, ranges_of}
 use Rattle.interval_form.specs.Form.{Form}
 use Rattle.interval_form.specs.Linear.{constant_form, linear_form, difference_form}
 use Rattle.interval_form.proofs.Bounding.{length-ranges_of}
-use Rattle.transfer_def.specs.Test.{at_most_value, below_value, test_value}
-use Rattle.transfer_def.proofs.Tests.{dims-test_value}
+use Rattle.transfer_def.specs.Test.{at_most_value, below_value}
+use Rattle.transfer_def.proofs.Conditions.{at_most-is, below-is}
 use Rattle.dec_oct.specs.Value.{Blocks, whole, Decomposed, decomposed, octagon, octagon_of}
 use Rattle.dec_transfer.specs.Restricted.{restricted_by, restricted_value}
-use Rattle.dec_transfer.proofs.Conditions.{at_most-is, below-is}
 
 -- ---- the ranges of a value
 
@@ -53,6 +51,3 @@ below-tested a b v r ranges f g k q h c d e = e ∙ by v.dims v.blocks q
     by : (n : ℕ) (o : Option Blocks) → IfSome o (λ k. ranges ≡ ranges_of n (whole n k)) → restricted_value ranges g (octagon (decomposed n o)) ≡ below_value a b (octagon (decomposed n o))
     by n None q = refl
     by n (Some x) q = ap (octagon_of n) (below-is n a b (whole n x) ranges f g k (restricted_by ranges g (whole n x)) q h c d refl)
-
-pub dims-test : (c : Condition) (w : Bool) (v r : Octagon) → r ≡ test_value c w v → r.dims ≡ v.dims
-dims-test c w v r e = ap (λ t. t.dims) e ∙ dims-test_value c w v

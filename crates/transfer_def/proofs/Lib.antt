@@ -5,6 +5,7 @@ pub mod Sound
 pub mod Values
 pub mod Worked
 pub mod Tests
+pub mod Conditions
 pub mod Moves
 pub mod Enter
 pub mod Back

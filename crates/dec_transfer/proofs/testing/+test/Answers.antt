@@ -3,8 +3,7 @@ use Rattle.spl_core.specs.declared.parts.CoreCond.TheVariants as cond
 use Rattle.spl_core.specs.Condition.{Constant, Random, Not, And, Or, Compare}
 use Rattle.spl_core.specs.Graph.{expr_at, exprs_in, cond_at, conds_in}
 use Rattle.dec_oct.specs.Value.{octagon}
-use Rattle.dec_transfer.proofs.Conditions.{found, condition_fits, condition_over, over-tested, dims-tested, constant-tested, random-tested, not-tested, compare-tested, and-true, and-false, or-true, or-false}
-use Rattle.dec_transfer.proofs.Tested.{dims-test}
+use Rattle.transfer_def.proofs.Conditions.{found, condition_fits, condition_over, dims-test, over-tested, dims-tested, constant-tested, random-tested, not-tested, compare-tested, and-true, and-false, or-true, or-false}
 use Rattle.dec_transfer.proofs.Marked.{constant-marks, random-marks, not-marks, compare-marks, and-true-marks, and-false-marks, or-true-marks, or-false-marks}
 use Rattle.dec_transfer.proofs.testing.+test.Goals as goal
 

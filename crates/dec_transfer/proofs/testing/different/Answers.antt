@@ -1,6 +1,6 @@
 use Rattle.spl_core.specs.Graph.{expr_at, exprs_in}
 use Rattle.dec_oct.specs.Value.{octagon}
-use Rattle.dec_transfer.proofs.Conditions.{dims-below, different-is}
+use Rattle.transfer_def.proofs.Conditions.{dims-below, different-is}
 use Rattle.dec_transfer.proofs.testing.different.Goals as goal
 
 pub join-requires : goal.join-requires

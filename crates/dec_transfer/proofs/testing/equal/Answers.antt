@@ -1,7 +1,7 @@
 use Rattle.std.proofs.Common.{◌≡◌, arith}
 use Rattle.spl_core.specs.Graph.{expr_at, exprs_in}
 use Rattle.dec_oct.specs.Value.{octagon}
-use Rattle.dec_transfer.proofs.Conditions.{dims-at_most, over-dims, equal-is}
+use Rattle.transfer_def.proofs.Conditions.{dims-at_most, over-dims, equal-is}
 use Rattle.dec_transfer.proofs.testing.equal.Goals as goal
 
 pub at_most-requires-2-clause-small : goal.at_most-requires-2-clause-small

@@ -2,7 +2,8 @@ use Rattle.std.proofs.Common.{length}
 use Rattle.spl_core.specs.Graph.{expr_at, exprs_in}
 use Rattle.interval_form.specs.Sparse.{form_in}
 use Rattle.interval_form.proofs.Wider.{over-ranges}
-use Rattle.full_oct.proofs.Testing.{rows-ranges, at_most-is}
+use Rattle.transfer_def.proofs.Conditions.{at_most-is}
+use Rattle.full_oct.proofs.Testing.{rows-ranges}
 use Rattle.full_oct.proofs.matrix.FullMatrix.at_most.Goals as goal
 
 pub difference-requires-clause-over_first : goal.difference-requires-clause-over_first

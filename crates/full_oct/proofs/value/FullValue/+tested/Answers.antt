@@ -2,7 +2,7 @@ use Rattle.std.proofs.Common.{◌≡◌, ◌<◌, length, true, false, arith}
 use Rattle.spl_core.specs.declared.parts.CoreCond.TheVariants as cond
 use Rattle.spl_core.specs.Condition.{Constant, Random, Not, And, Or, Compare}
 use Rattle.spl_core.specs.Graph.{expr_at, exprs_in, cond_at, conds_in}
-use Rattle.full_oct.proofs.Testing.{found, condition_fits, condition_over, over-tested, dims-tested, constant-tested, random-tested, not-tested, compare-tested, and-true, and-false, or-true, or-false}
+use Rattle.transfer_def.proofs.Conditions.{found, condition_fits, condition_over, over-tested, dims-tested, constant-tested, random-tested, not-tested, compare-tested, and-true, and-false, or-true, or-false}
 use Rattle.full_oct.proofs.value.FullValue.+tested.Goals as goal
 
 pub tested-requires-in-And-true-2 : goal.tested-requires-in-And-true-2

@@ -1,5 +1,5 @@
 use Rattle.spl_core.specs.Graph.{expr_at, exprs_in}
-use Rattle.full_oct.proofs.Testing.{dims-below, different-is}
+use Rattle.transfer_def.proofs.Conditions.{dims-below, different-is}
 use Rattle.full_oct.proofs.value.FullValue.different.Goals as goal
 
 pub joined-requires : goal.joined-requires

@@ -1,5 +1,5 @@
 use Rattle.spl_core.specs.Graph.{expr_at, exprs_in}
-use Rattle.full_oct.proofs.Testing.{dims-at_most, over-dims, equal-is}
+use Rattle.transfer_def.proofs.Conditions.{dims-at_most, over-dims, equal-is}
 use Rattle.full_oct.proofs.value.FullValue.equal.Goals as goal
 
 pub at_most-requires-2-clause-over_first : goal.at_most-requires-2-clause-over_first

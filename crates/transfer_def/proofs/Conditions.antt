@@ -12,6 +12,7 @@ use Rattle.spl_core.specs.Laws.{NumbersStandForNodes}
 use Rattle.spl_core.specs.Expression.{Expression, IsOver}
 use Rattle.spl_core.specs.Condition.{Condition, Constant, Random, Not, And, Or, Compare, IsConditionOver}
 use Rattle.spl_core.specs.Graph.{exprs_in, cond_at, cond_over, conds_in}
+use Rattle.spl_runs.proofs.Parted.{condition_node}
 use Rattle.interval_form.specs.declared.interval.Interval.{Interval}
 use Rattle.interval_form.specs.Interval.{ranges_of, point, negated, difference_of, sum_of}
 use Rattle.interval_form.specs.Form.{Form, nothing, coefficient}
@@ -100,20 +101,20 @@ different-is a b v x y z e f h = h ∙ (ap (λ (t : Octagon). join_value t y) e 
 
 -- ---- the parts of a condition
 
-condition_node : (c : Parts) → NumbersStandForNodes → IsCore c → (k : ℕ) (x : CoreCond) → k < length c.conds → x ≡ get_or c.conds k x → cond_over (exprs_in c) (conds_in c) x ≡ cond_at (conds_in c) k
-condition_node c law w k x l h = ap (cond_over (exprs_in c) (conds_in c)) h ∙ sym ((law c w).cond k x l)
-
 pub condition_fits : (c : Parts) → IsCore c → (k : ℕ) (x : CoreCond) → k < length c.conds → x ≡ get_or c.conds k x → CondFits c k x
 condition_fits c w k x l h = subst (CondFits c k) (sym h) (w.conds k x l)
 
 pub condition_over : (n : ℕ) (x y : Condition) → x ≡ y → IsConditionOver n y → IsConditionOver n x
 condition_over n x y e h = subst (IsConditionOver n) (sym e) h
 
+pub dims-test : (c : Condition) (w : Bool) (v r : Octagon) → r ≡ test_value c w v → r.dims ≡ v.dims
+dims-test c w v r e = ap (λ (t : Octagon). t.dims) e ∙ dims-test_value c w v
+
 pub over-tested : (c d : Condition) (w : Bool) (v r : Octagon) → r ≡ test_value c w v → IsConditionOver v.dims d → IsConditionOver r.dims d
-over-tested c d w v r e h = subst (λ n. IsConditionOver n d) (sym (ap (λ (t : Octagon). t.dims) e ∙ dims-test_value c w v)) h
+over-tested c d w v r e h = subst (λ n. IsConditionOver n d) (sym (dims-test c w v r e)) h
 
 pub dims-tested : (c d : Condition) (w b : Bool) (v r s : Octagon) → r ≡ test_value c w v → s ≡ test_value d b v → r.dims ≡ s.dims
-dims-tested c d w b v r s e f = (ap (λ (t : Octagon). t.dims) e ∙ dims-test_value c w v) ∙ sym (ap (λ (t : Octagon). t.dims) f ∙ dims-test_value d b v)
+dims-tested c d w b v r s e f = dims-test c w v r e ∙ sym (dims-test d b v s f)
 
 pub constant-tested : (value w : Bool) (c : Condition) (v r : Octagon) → Constant value ≡ c → r ≡ constant_value value w v → r ≡ test_value c w v
 unfolding test_value
