@@ -11,6 +11,7 @@ use Rattle.block_partition.proofs.Places.{member-place, in-member, home_in, home
 use Rattle.block_partition.proofs.Unique.{rising-unique}
 use Rattle.spl_core.specs.Facts.{AreDistinct}
 use Rattle.transfer_def.specs.Dimensions.{moved_variable, moved_dimension, moved_entry, moved}
+use Rattle.transfer_def.proofs.Dimensions.{moved-found, moved-none}
 use Rattle.block_laws.specs.Assembly.{outer, restrict_entry, restrict, matrix}
 use Rattle.block_laws.specs.Components.{Joins, Linked, One, More}
 use Rattle.block_laws.proofs.Places.{outer_in}
@@ -19,7 +20,6 @@ use Rattle.block_laws.proofs.Assembly.{length-assembly, restrict-assembly}
 use Rattle.dec_oct.specs.Value.{Blocks, Decomposed, decomposed, marked, whole, octagon, IsDecomposition, IsKeptBlocks, IsKept}
 use Rattle.dec_oct.specs.Cost.{TellsAgain, TellsAgainOf}
 use Rattle.dec_parts.specs.Moving.{moved_value, KeepsOtherMarks, KeepsOtherMarksOf, IsChanged, HoldsTarget, WasBesideTarget, MarksAllButTargetsOf}
-use Rattle.dec_parts.proofs.MovedVariables.{moved-found, moved-none}
 
 -- ---- entries that stay
 

@@ -1,66 +1,19 @@
 -- Added variables that take the places of others are new numbers of variables.
-use Rattle.std.proofs.Common.{◌≡◌, ℕ, ◌+◌, ◌*◌, ◌/◌, ◌%◌, ◌<◌, ◌≤◌, ◌⊎◌, inl, inr, List, length, Option, Some, None, refl, sym, ap, ◌∙◌, subst, arith, suc, zero, [], ◌∷◌}
+use Rattle.std.proofs.Common.{◌≡◌, ℕ, ◌+◌, ◌*◌, ◌/◌, ◌%◌, ◌<◌, ◌≤◌, ◌⊎◌, inl, inr, List, length, Option, Some, None, refl, sym, ap, ◌∙◌, subst, arith}
 use Rattle.std.specs.Option.{option_map}
 use Rattle.std.proofs.lemmas.List.{get_or_past}
-use Rattle.std.proofs.lemmas.Bool.{cases_eq, cases_lt, cases_order, cond-true, cond-false, eq-eqb, ne_eqb}
+use Rattle.std.proofs.lemmas.Bool.{cases_eq, cases_lt}
 use Rattle.oct_def.specs.Table.{Matrix, table, at}
 use Rattle.oct_def.specs.Matrix.{IsEvenMatrix}
 use Rattle.oct_def.proofs.Tables.{table-same}
 use Rattle.block_partition.specs.Partition.{member, block, IsIn, IsBlock}
 use Rattle.block_partition.proofs.Places.{in-member, member-place}
 use Rattle.transfer_def.specs.Dimensions.{moved_variable, moved_dimension, moved_entry, moved}
+use Rattle.transfer_def.proofs.Dimensions.{Moves, moves, taken, still, moved_variable-below}
 use Rattle.dec_oct.specs.Value.{Blocks, Decomposed, whole, octagon, octagon_of, IsDecomposition, IsKeptBlocks, IsKept}
 use Rattle.dec_parts.specs.Rename.{origin, renamed_entry, renamed_matrix, AreOrigins, renamed_value, AreUnmoved, KeepsOwnMarks, KeepsOwnMarksOf}
 use Rattle.dec_parts.specs.Moving.{AreMovedOrigins, moved_value, KeepsOtherMarks, KeepsOtherMarksOf}
 use Rattle.dec_parts.proofs.Renaming.{dimension-old, renamed-same, renamed-old}
-
--- ---- where a variable is taken from
-
--- the place of the first target that is v is taken by an added variable, and any other variable keeps its place
-pub data Moves (k : ℕ) (targets : List ℕ) (v : ℕ) : Type 0 where
-  taken : (i : ℕ) → i < length targets → member targets i ≡ v → ((j : ℕ) → j < i → member targets j ≡ v → ⊥) → moved_variable k targets v ≡ k + i → Moves k targets v
-  still : ((i : ℕ) → i < length targets → member targets i ≡ v → ⊥) → moved_variable k targets v ≡ v → Moves k targets v
-
-pub moves : (k : ℕ) (targets : List ℕ) (v : ℕ) → Moves k targets v
-unfolding moved_variable
-moves k [] v = still (λ i p e. absurd (omega arith)) refl
-moves k (x ∷ targets) v = by (cases_eq v x) (moves (k + 1) targets v)
-  where
-    later : (v ≡ x → ⊥) → (m : ℕ) → ((i : ℕ) → i < m → member targets i ≡ v → ⊥) → (i : ℕ) → i < m + 1 → member (x ∷ targets) i ≡ v → ⊥
-    later d m g zero p e = d (sym e)
-    later d m g (suc i) p e = g i (omega arith) e
-
-    by : (v ≡ x) ⊎ (v ≡ x → ⊥) → Moves (k + 1) targets v → Moves k (x ∷ targets) v
-    by (inl e) _ = taken 0 (omega arith) (sym e) (λ j p f. absurd (omega arith)) (cond-true _ _ _ (eq-eqb v x e) ∙ omega arith)
-    by (inr d) (taken i p e g f) = taken (suc i) (omega arith) e (λ j p. later d i g j (omega arith)) (cond-false _ _ _ (ne_eqb v x d) ∙ f ∙ omega arith)
-    by (inr d) (still g f) = still (λ i p e. later d (length targets) g i (omega arith) e) (cond-false _ _ _ (ne_eqb v x d) ∙ f)
-
--- by the number of the first target that is v, if one is
-pub moved-found : (first : ℕ) (targets : List ℕ) (v k : ℕ) → k < length targets → ((i : ℕ) → i < k → member targets i ≡ v → ⊥) → member targets k ≡ v → moved_variable first targets v ≡ first + k
-moved-found first targets v k p none e = by (moves first targets v)
-  where
-    same : (i : ℕ) → member targets i ≡ v → ((j : ℕ) → j < i → member targets j ≡ v → ⊥) → (i ≡ k) ⊎ ((i < k) ⊎ (k < i)) → i ≡ k
-    same i f g (inl t) = t
-    same i f g (inr (inl q)) = absurd (none i q f)
-    same i f g (inr (inr q)) = absurd (g k q e)
-
-    by : Moves first targets v → moved_variable first targets v ≡ first + k
-    by (taken i q f g t) = t ∙ ap (λ z. first + z) (same i f g (cases_order i k))
-    by (still g t) = absurd (g k p e)
-
-pub moved-none : (first : ℕ) (targets : List ℕ) (v : ℕ) → ((i : ℕ) → i < length targets → member targets i ≡ v → ⊥) → moved_variable first targets v ≡ v
-moved-none first targets v none = by (moves first targets v)
-  where
-    by : Moves first targets v → moved_variable first targets v ≡ v
-    by (taken i q f g t) = absurd (none i q f)
-    by (still g t) = t
-
-moved-below : (n : ℕ) (targets : List ℕ) (v : ℕ) → v < n → moved_variable n targets v < n + length targets
-moved-below n targets v p = by (moves n targets v)
-  where
-    by : Moves n targets v → moved_variable n targets v < n + length targets
-    by (taken i q e g f) = omega (arith, f)
-    by (still g f) = omega (arith, f)
 
 -- ---- the origins
 
@@ -77,7 +30,7 @@ moved-origins n targets origins h v u e =
     let q : v < n = omega (arith, h.size) in
     let f : Some (moved_variable n targets v) ≡ Some u = sym (h.each v q) ∙ e in
     let g : moved_variable n targets v ≡ u = cc in
-    let b = moved-below n targets v q in
+    let b = moved_variable-below n v targets q in
     omega arith
 
 moved-is : (n : ℕ) (targets : List ℕ) (origins : List (Option ℕ)) (m : Matrix) → AreMovedOrigins n targets origins → IsEvenMatrix (n + length targets) m → renamed_matrix origins m ≡ moved n targets m
@@ -89,7 +42,7 @@ moved-is n targets origins m h v = ap (λ k. table (2 * k) (renamed_entry origin
 
     by : (i j : ℕ) → i < 2 * n → j < 2 * n → (i ≡ j) ⊎ (i ≡ j → ⊥) → renamed_entry origins m i j ≡ at m (2 * moved_variable n targets (i / 2) + i % 2) (2 * moved_variable n targets (j / 2) + j % 2)
     by i j p q (inl e) =
-        let b = moved-below n targets (i / 2) (omega arith) in
+        let b = moved_variable-below n (i / 2) targets (omega arith) in
         let r = v.matrix.rows in
         renamed-same origins m i j e ∙ sym (ap (λ t. at m (2 * moved_variable n targets (i / 2) + i % 2) (2 * moved_variable n targets (t / 2) + t % 2)) (sym e) ∙ v.matrix.diagonal _ (omega arith))
     by i j p q (inr d) = renamed-old origins m i j _ _ d (dimension-old origins i _ (old i p)) (dimension-old origins j _ (old j q))

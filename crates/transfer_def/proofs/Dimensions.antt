@@ -1,6 +1,6 @@
 -- States and matrices with more variables, and with variables in the places of others.
-use Rattle.std.proofs.Common.{◌≡◌, ◌≢◌, ◌⊎◌, inl, inr, ⊎_elim, ℕ, suc, ◌+◌, ◌-◌, ◌*◌, ◌/◌, ◌%◌, ◌<◌, ◌≤◌, ◌++◌, ◌&&◌, Bool, true, false, cond, List, [], ◌∷◌, length, get_or, set, ℤ, pos, refl, sym, ap, subst, arith, nat_eq, nat_lt, ◌∙◌, ltb-true, lt-ltb, le-ltb, eqb-true, eq-eqb, ne_eqb, get_or-set_same, get_or-set_other, length-set, Some, None}
-use Rattle.std.proofs.lemmas.Bool.{eqb-false, cases_eq, and_left, and_right}
+use Rattle.std.proofs.Common.{◌≡◌, ◌≢◌, ◌⊎◌, inl, inr, ⊎_elim, ℕ, zero, suc, ◌+◌, ◌-◌, ◌*◌, ◌/◌, ◌%◌, ◌<◌, ◌≤◌, ◌++◌, ◌&&◌, Bool, true, false, cond, List, [], ◌∷◌, length, get_or, set, ℤ, pos, refl, sym, ap, subst, arith, nat_eq, nat_lt, ◌∙◌, ltb-true, lt-ltb, le-ltb, eqb-true, eq-eqb, ne_eqb, get_or-set_same, get_or-set_other, length-set, Some, None}
+use Rattle.std.proofs.lemmas.Bool.{eqb-false, cases_eq, cases_order, cond-true, cond-false, and_left, and_right}
 use Rattle.std.proofs.lemmas.Int.{ints}
 use Rattle.std.proofs.lemmas.List.{get_or_append_left, get_or-append_right}
 use Rattle.oct_def.specs.Bound.{Bound, Within, InRange, IsEven}
@@ -181,6 +181,45 @@ value_at-moved (x ∷ targets) (y ∷ ys) s t k v l d inside same added =
         ∙ get_or-set_same s x y (pos 0) there)
     by false e rest = rest (eqb-false v x e)
 
+-- the place of the first target that is v is taken by an added variable, and any other variable keeps its place
+pub data Moves (k : ℕ) (targets : List ℕ) (v : ℕ) : Type 0 where
+  taken : (i : ℕ) → i < length targets → get_or targets i 0 ≡ v → ((j : ℕ) → j < i → get_or targets j 0 ≢ v) → moved_variable k targets v ≡ k + i → Moves k targets v
+  still : ((i : ℕ) → i < length targets → get_or targets i 0 ≢ v) → moved_variable k targets v ≡ v → Moves k targets v
+
+pub moves : (k : ℕ) (targets : List ℕ) (v : ℕ) → Moves k targets v
+unfolding moved_variable
+moves k [] v = still (λ i p e. absurd (omega arith)) refl
+moves k (x ∷ targets) v = by (cases_eq v x) (moves (k + 1) targets v)
+  where
+    later : v ≢ x → (m : ℕ) → ((i : ℕ) → i < m → get_or targets i 0 ≢ v) → (i : ℕ) → i < m + 1 → get_or (x ∷ targets) i 0 ≢ v
+    later d m g zero p e = d (sym e)
+    later d m g (suc i) p e = g i (omega arith) e
+
+    by : (v ≡ x) ⊎ (v ≢ x) → Moves (k + 1) targets v → Moves k (x ∷ targets) v
+    by (inl e) _ = taken 0 (omega arith) (sym e) (λ j p f. absurd (omega arith)) (cond-true _ _ _ (eq-eqb v x e) ∙ omega arith)
+    by (inr d) (taken i p e g f) = taken (suc i) (omega arith) e (λ j p. later d i g j (omega arith)) (cond-false _ _ _ (ne_eqb v x d) ∙ f ∙ omega arith)
+    by (inr d) (still g f) = still (λ i p e. later d (length targets) g i (omega arith) e) (cond-false _ _ _ (ne_eqb v x d) ∙ f)
+
+-- by the number of the first target that is v, if one is
+pub moved-found : (first : ℕ) (targets : List ℕ) (v k : ℕ) → k < length targets → ((i : ℕ) → i < k → get_or targets i 0 ≢ v) → get_or targets k 0 ≡ v → moved_variable first targets v ≡ first + k
+moved-found first targets v k p none e = by (moves first targets v)
+  where
+    same : (i : ℕ) → get_or targets i 0 ≡ v → ((j : ℕ) → j < i → get_or targets j 0 ≢ v) → (i ≡ k) ⊎ ((i < k) ⊎ (k < i)) → i ≡ k
+    same i f g (inl t) = t
+    same i f g (inr (inl q)) = absurd (none i q f)
+    same i f g (inr (inr q)) = absurd (g k q e)
+
+    by : Moves first targets v → moved_variable first targets v ≡ first + k
+    by (taken i q f g t) = t ∙ ap (λ z. first + z) (same i f g (cases_order i k))
+    by (still g t) = absurd (g k p e)
+
+pub moved-none : (first : ℕ) (targets : List ℕ) (v : ℕ) → ((i : ℕ) → i < length targets → get_or targets i 0 ≢ v) → moved_variable first targets v ≡ v
+moved-none first targets v none = by (moves first targets v)
+  where
+    by : Moves first targets v → moved_variable first targets v ≡ v
+    by (taken i q f g t) = absurd (none i q f)
+    by (still g t) = t
+
 moved_dimension-parity : (n : ℕ) (targets : List ℕ) (i : ℕ) → moved_dimension n targets i % 2 ≡ i % 2
 unfolding moved_dimension
 moved_dimension-parity n targets i = omega arith
@@ -214,7 +253,7 @@ meets-moved n targets ys s m l ly d h =
     rw (← signed_value-moved n targets ys s i l ly d p, ← signed_value-moved n targets ys s j l ly d q)
     (h.within (moved_dimension n targets i) (moved_dimension n targets j)))
 
-moved_variable-below : (k v : ℕ) (targets : List ℕ) → v < k → moved_variable k targets v < k + length targets
+pub moved_variable-below : (k v : ℕ) (targets : List ℕ) → v < k → moved_variable k targets v < k + length targets
 unfolding moved_variable
 moved_variable-below k v [] p = omega arith
 moved_variable-below k v (t ∷ targets) p = by (nat_eq v t) (moved_variable-below (k + 1) v targets (omega arith))

@@ -1,5 +1,5 @@
 use Rattle.std.proofs.Common.{sym, arith}
-use Rattle.dec_parts.proofs.MovedVariables.{moved-found, moved-none}
+use Rattle.transfer_def.proofs.Dimensions.{moved-found, moved-none}
 use Rattle.dec_parts.proofs.moving.moved_variable.Goals as goal
 
 pub returns-then-targets-k : goal.returns-then-targets-k
