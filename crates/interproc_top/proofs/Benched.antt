@@ -6,7 +6,7 @@ use Rattle.spl_types.specs.Accepted.{point_count}
 use Rattle.spl_types.specs.Checks.{main_procedure}
 use Rattle.spl_types.specs.Dimensions.{procedures}
 use Rattle.spl_core.specs.declared.parts.Proc.{Proc}
-use Rattle.spl_core.specs.Parts.{Parts, no_proc, owner_of, proc_at}
+use Rattle.spl_core.specs.Parts.{Parts, no_proc, proc_at}
 use Rattle.spl_core.specs.Facts.{IsCore, ProcFits}
 use Rattle.spl_core.specs.Graph.{Graph, dims_at, graph_of, main_of, proc_of}
 use Rattle.control_points.specs.CoreOf.{core_of}
@@ -18,7 +18,7 @@ use Rattle.components.specs.Value.{AreComponentsOf, IsGreatestSize}
 use Rattle.spl_gen.specs.Generated.{generated}
 use Rattle.generated_program.specs.ProgramOf.{program}
 use Rattle.generated_program.specs.Accepted.{IsAcceptedAs, GeneratedTextIsAccepted, GeneratedProgramHasPoints}
-use Rattle.interproc_top.specs.Accepted.{IsTokenized, IsParsed, IsAccepted}
+use Rattle.interproc_top.specs.Accepted.{IsParsed, IsAccepted}
 use Rattle.interproc_top.specs.Analysis.{usual}
 use Rattle.interproc_top.specs.Bench.{AreFiguresOf, IsBenchWith, figure_line, figures_text, found_last}
 use Rattle.interproc_top.specs.Reported.{Refuses}

@@ -1,8 +1,7 @@
 -- Where the outside is fair, each end of a call but the wanted one is ruled out by its cause.
-use Rattle.std.proofs.Common.{◌≡◌, ◌⊎◌, ℕ, ◌<◌, ◌≤◌, Bool, true, false, cond, List, length, Option, Some, None, Ok, Err, ◌++◌, ◌+◌, refl, sym, ap, ◌∙◌, subst, inl, inr, arith, length-append}
+use Rattle.std.proofs.Common.{◌≡◌, ◌⊎◌, ℕ, ◌<◌, ◌≤◌, Bool, true, false, cond, List, length, Some, None, Ok, Err, ◌++◌, ◌+◌, refl, sym, ap, ◌∙◌, subst, inl, inr, arith, length-append}
 use Rattle.std.specs.FinMap as map
 use Rattle.std.specs.Io.KnownBytes.{Appends}
-use Rattle.spl_io.specs.Counts.{Rose}
 use Rattle.spl_io.specs.Store.{Store, Told, Lacks, Has, IsLong, most_bytes}
 use Rattle.spl_text.specs.declared.token.Token.{Token}
 use Rattle.spl_text.specs.TextRules.{HasOneCut, HasOneFault, EachTextHasOneReading}
@@ -10,20 +9,20 @@ use Rattle.spl_tree.specs.Program.{Program}
 use Rattle.spl_parser.specs.Derives.{Derives}
 use Rattle.spl_types.specs.Checks.{broken_rule}
 use Rattle.spl_runs.specs.Choices.{Given}
-use Rattle.spl_runs.specs.ChoicesText.{IsChoices, FaultAt}
+use Rattle.spl_runs.specs.ChoicesText.{IsChoices}
 use Rattle.spl_runs.specs.Laws.{ChoicesAreOne, HasNotBoth}
 use Rattle.spl_runs.specs.Replay.{Top, Replay as Replayed, ran, not_a_run, too_wide, replayed}
 use Rattle.spl_runs.specs.Runs.{Stack}
 use Rattle.run_text.specs.Text.{run_text}
 use Rattle.control_points.specs.CoreOf.{core_of}
-use Rattle.command_words.specs.Command.{Asked, Analyse, Bench, Replay, asked_of}
+use Rattle.command_words.specs.Command.{Asked, Analyse, Bench, Replay}
 use Rattle.command_words.specs.declared.domain_name.DomainName.{DomainName}
 use Rattle.interproc_top.specs.Accepted.{IsTokenized, IsParsed, IsAccepted, BreaksAt}
 use Rattle.interproc_top.specs.Analysis.{report_on, verdict_on}
 use Rattle.interproc_top.specs.Bench.{IsBenchOf}
-use Rattle.interproc_top.specs.Call.{Call, Asks, AsksNothing, AsksOf, AsksRun, Answers, AnswersWith, Completes, End, Ends, Explains, Holds, IsFair, IsStopped, IsUnwritten, IsUsage, IsWritten, Writes, WritesNothing, program_asked, status_at}
+use Rattle.interproc_top.specs.Call.{Call, Asks, AsksNothing, AsksOf, AsksRun, Answers, AnswersWith, Completes, End, Ends, Explains, Holds, IsFair, IsStopped, IsUnwritten, IsUsage, Writes, program_asked, status_at}
 use Rattle.interproc_top.specs.Cause.{status_by, status_of}
-use Rattle.interproc_top.specs.Command.{IsOutput, IsProgram, IsReported, IsReplayed, Stops, StopsProgram, StopsRun, options}
+use Rattle.interproc_top.specs.Command.{IsOutput, IsProgram, IsReported, IsReplayed, Stops, StopsProgram, options}
 use Rattle.interproc_top.specs.Reading.{Reading, IsRead, Withholds}
 use Rattle.interproc_top.specs.Replay.{IsRunText, Spoils, is_fail, last_point, status_of_run}
 use Rattle.interproc_top.specs.Reported.{IsReportOf, Refuses}

@@ -1,7 +1,7 @@
 -- A text of choices has fewer steps than bytes.
-use Rattle.std.proofs.Common.{◌≡◌, ℕ, ◌+◌, ◌<◌, ◌≤◌, Bool, List, [], ◌∷◌, ◌++◌, length, ℤ, refl, sym, ap, ◌∙◌, subst, arith, length-append}
-use Rattle.spl_runs.specs.Choices.{Choice, Given}
-use Rattle.spl_runs.specs.ChoicesText.{Line, Lines, nothing, only, more, IsChoices, line_bytes, line_numbers, lines_bytes, lines_given, last_bytes, with_step}
+use Rattle.std.proofs.Common.{ℕ, ◌+◌, ◌≤◌, List, [], ◌∷◌, length, ℤ, ap, ◌∙◌, arith, length-append}
+use Rattle.spl_runs.specs.Choices.{Given}
+use Rattle.spl_runs.specs.ChoicesText.{Lines, nothing, only, more, IsChoices, line_bytes, line_numbers, lines_bytes, lines_given, last_bytes, with_step}
 
 step_more : (g : Given) (numbers : List ℤ) → length (with_step g numbers).steps ≤ length g.steps + 1
 step_more g [] = omega arith

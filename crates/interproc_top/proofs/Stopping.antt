@@ -1,10 +1,9 @@
 -- What ends a command before its output is made.
-use Rattle.std.proofs.Common.{◌≡◌, ◌⊎◌, ℕ, ◌≤◌, ◌+◌, ◌-◌, ◌^◌, List, inl, inr, sym, subst, arith, min}
+use Rattle.std.proofs.Common.{◌≡◌, ℕ, ◌≤◌, List, inl, inr, sym, subst, arith}
 use Rattle.spl_io.specs.Counts.{Rose}
 use Rattle.spl_io.specs.Store.{Lacks, IsLong}
 use Rattle.spl_tree.specs.Program.{Program}
-use Rattle.command_words.specs.Command.{Asked, Analyse, Bench, Replay}
-use Rattle.interproc_top.specs.Command.{IsProgram, Stops, StopsProgram, StopsRun}
+use Rattle.interproc_top.specs.Command.{IsProgram, StopsRun}
 use Rattle.interproc_top.specs.Reading.{Reading, IsRead, Withholds}
 use Rattle.interproc_top.specs.Replay.{Spoils}
 use Rattle.interproc_top.specs.declared.cause.Cause.{Cause}

@@ -94,15 +94,7 @@ fn analysed_in<D: Domain>(
     let _ = checked.tree();
     let built = core_of(alloc, checked)?;
     let solution = analyse(alloc, dom, &built.core, options.delay, options.descend)?;
-    let text = report_text(
-        alloc,
-        bytes,
-        checked,
-        &built,
-        dom,
-        &solution,
-        options.full,
-    )?;
+    let text = report_text(alloc, bytes, checked, &built, dom, &solution, options.full)?;
     let verdict = if all_unreachable(alloc, checked, &built, dom, &solution)? {
         Verdict::AllUnreachable
     } else {

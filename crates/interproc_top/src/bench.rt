@@ -49,8 +49,10 @@ pub fn bench_text(alloc: Global, number: u32, dom: &mut DecDomain) -> Result<Vec
     let bytes = generate(alloc, number)?;
     let figures = match figures_by(alloc, number, &bytes, dom) {
         Ok(figures) => figures,
-        Err(Cause::NoMemory) => return Err(NoMemory),
-        Err(_) => unreachable!(),
+        Err(cause) => match cause {
+            Cause::NoMemory => return Err(NoMemory),
+            _ => unreachable!(),
+        },
     };
     let text = figures_text(alloc, &figures)?;
     Ok(text)

@@ -246,11 +246,7 @@ const WORKED: [(&[u8], u8, &[u8]); 3] = [
 ];
 
 /// The words of an analysis in each domain, and in the one that is taken where none is asked for.
-const DOMAINS: [&[&str]; 3] = [
-    &["f"],
-    &["--domain", "dec", "f"],
-    &["f", "--domain=full"],
-];
+const DOMAINS: [&[&str]; 3] = [&["f"], &["--domain", "dec", "f"], &["f", "--domain=full"]];
 
 #[test]
 fn worked_reports_in_each_domain(rt: HostRuntime) -> Result<(), Fail> {

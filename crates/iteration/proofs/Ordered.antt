@@ -1,53 +1,23 @@
 -- What a point that is no cut point reads is a cut point or stands before it in the order.
-use Rattle.std.proofs.Common.{◌≡◌, ◌⊎◌, inl, inr, ℕ, suc, zero, ◌<◌, ◌≤◌, ◌++◌, Bool, true, false, cond, List, [], ◌∷◌, length, get_or, refl, sym, ap, subst, arith, ◌∙◌, nat_eq, leb, eqb-true}
+use Rattle.std.proofs.Common.{◌≡◌, ◌⊎◌, inl, inr, ℕ, ◌<◌, ◌≤◌, ◌++◌, Bool, true, false, cond, [], length, get_or, refl, sym, ap, subst, arith, ◌∙◌, nat_eq, leb, eqb-true}
 use Rattle.std.specs.List.{Contains, flat_map, range_with_len}
 use Rattle.std.proofs.lemmas.Bool.{cases_lt, or_right, or_parts, false≢true}
 use Rattle.std.proofs.lemmas.Bool.Decides.{Decides-eqb, leb_tells}
 use Rattle.std.proofs.lemmas.List.{get_or_default}
 use Rattle.std.proofs.lemmas.List.Folds.{list_any_at}
-use Rattle.std.proofs.lemmas.List.FromFn.{length-range_with_len, get_or-range_with_len}
 use Rattle.spl_core.specs.declared.parts.Proc.{Proc}
 use Rattle.spl_core.specs.Graph.{Move, skips, assigns, havocs, tests, calls, starts, Graph, no_arc, proc_of, arc_at, owner_of, proc_owning}
 use Rattle.spl_core.specs.GraphFacts.{MoveFits, CallMoveFits}
 use Rattle.call_graph.specs.Reach.{is_call_of, is_call_from, calls_directly, reaches, reach_count}
 use Rattle.call_graph.specs.Order.{Before, order, closes_loop_at, is_loop_head, is_entry, is_recursive_exit, is_cut}
 use Rattle.call_graph.proofs.Reaching.{and_from, reaches-joined, reaches-call, fewer}
-use Rattle.call_graph.proofs.Lists.{from_flat_map}
+use Rattle.call_graph.proofs.Lists.{from_flat_map, from_range, of_one, guarded, of_two}
 use Rattle.call_graph.proofs.Sorting.{is_order, before_asym}
 use Rattle.equations.specs.Sources.{source_by, source_at_start, source_into_entry, source_into_point, sources, exit_of, reads_of, reads_at}
 use Rattle.equations.proofs.Facts.{Known}
 use Rattle.iteration.specs.Solved.{system_of}
 use Rattle.iteration.specs.Ends.{IsOrdered}
 use Rattle.iteration.proofs.Layers.{layered-by, distinct-by}
-
--- ---- lists
-
-from_range : {A : Type 0} → (f : ℕ → List A) (n : ℕ) (y : A) → Contains (flat_map f (range_with_len 0 n)) y → (e : ℕ) × (e < n) × Contains (f e) y
-from_range f n y h =
-    let r = from_flat_map f (range_with_len 0 n) y h in
-    let lt : r.0 < n = omega (arith, r.2, length-range_with_len 0 n) in
-    let same : r.1 ≡ r.0 = sym r.3 ∙ get_or-range_with_len 0 n r.0 r.1 lt ∙ omega arith in
-    (r.0, lt, subst (λ z. Contains (f z) y) same r.4)
-
--- an item of a list of one, of a list that a test guards, and of a list of two
-of_one : {A : Type 0} → (x y : A) → Contains (x ∷ []) y → x ≡ y
-of_one x y h = by h.0 h.1 h.2
-  where
-    by : (k : ℕ) → k < 1 → get_or (x ∷ []) k y ≡ y → x ≡ y
-    by zero lt e = e
-    by (suc k) lt e = absurd (omega arith)
-
-guarded : {A : Type 0} → (b : Bool) (x y : A) → Contains (cond b (x ∷ []) []) y → (b ≡ true) × (x ≡ y)
-guarded true x y h = (refl, of_one x y h)
-guarded false x y h = absurd (omega (arith, h.1))
-
-of_two : {A : Type 0} → (x z y : A) → Contains (x ∷ z ∷ []) y → (x ≡ y) ⊎ (z ≡ y)
-of_two x z y h = by h.0 h.1 h.2
-  where
-    by : (k : ℕ) → k < 2 → get_or (x ∷ z ∷ []) k y ≡ y → (x ≡ y) ⊎ (z ≡ y)
-    by zero lt e = inl e
-    by (suc zero) lt e = inr e
-    by (suc (suc k)) lt e = absurd (omega arith)
 
 leb_from : (a b : ℕ) → a ≤ b → leb a b ≡ true
 leb_from a b h = elim (leb_tells a b) [ inl t ↦ t.0 | inr t ↦ absurd (omega (arith, t.1)) ]

@@ -1,3 +1,4 @@
+use Rattle.std.proofs.Common.{◌-◌, ap₂}
 use Rattle.spl_tree.specs.Meaning.{program_of}
 use Rattle.interproc_top.proofs.Benched.{exit-in, exit-dims, figures-are}
 use Rattle.interproc_top.proofs.bench.figures_of.Goals as goal
@@ -17,9 +18,10 @@ components-requires c =
           c.procs.ensures.known c.in_ok-solution.ensures.solution c.procs.ensures.count c.proc_at-main.ensures.found c.in_ok-last.ensures.value;
     }
 
-pub returns : goal.returns
-returns c =
-    figures-are c.args.number (program_of c.args.checked.now) c.in_ok-built.built.core c.in_ok-solution.solution c.usual-options.result c.procs.result c.proc_at-main.result _
+pub returns-clause-figures : goal.returns-clause-figures
+returns-clause-figures c =
+    figures-are c.args.number (c.read.new.dom - c.args.dom.now) (c.rows.result - c.rows-before.result) (program_of c.args.checked.now) c.in_ok-built.built.core c.in_ok-solution.solution c.usual-options.result c.procs.result c.proc_at-main.result _
     _ c.points.result c.rounds.result c.len.result c.greatest_size.result
     c.procs.ensures.known c.in_ok-built.ensures.graph c.usual-options.ensures c.in_ok-solution.ensures.solution c.procs.ensures.count c.proc_at-main.ensures.found
     c.in_ok-last.ensures.value c.in_ok-blocks.ensures c.requires.points c.points.ensures.count c.rounds.ensures c.len.ensures.count c.greatest_size.ensures
+    (ap₂ (λ now before. now - before) c.rows.ensures c.rows-before.ensures)

@@ -1,4 +1,4 @@
-use Rattle.std.proofs.Common.{◌≡◌, ◌⊎◌, ℕ, List, inr, refl, sym, subst}
+use Rattle.std.proofs.Common.{◌⊎◌, ℕ, List, inr, refl, sym, subst}
 use Rattle.std.proofs.lemmas.Result.{IfOk-weaker, IfErr-weaker, err_from_is_err_and}
 use Rattle.spl_io.specs.Store.{Told}
 use Rattle.spl_tree.specs.Program.{Program}
