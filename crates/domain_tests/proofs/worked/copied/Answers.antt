@@ -1,0 +1,6 @@
+use Rattle.std.proofs.Common.{◌∙◌}
+use Rattle.domain_tests.proofs.Keeping.{after_assign}
+use Rattle.domain_tests.proofs.worked.copied.Goals as goal
+
+pub returns : goal.returns
+returns c = record { dims = after_assign _ _ _ _ c.in_ok-w.ensures.value ∙ c.requires.dims }
