@@ -93,44 +93,59 @@ fn closed<D: Domain>(alloc: Global, dom: &mut D, v: &D::V) -> Result<D::V, Fail>
     Ok(close)
 }
 
+/// The view of the join of the branches.
+fn join_view<D: Domain>(alloc: Global, dom: &mut D) -> Result<String, Fail> {
+    let join = joined(alloc, dom)?;
+    let line = view(alloc, dom, &join, 2)?;
+    Ok(line)
+}
+
+/// The views of the pairs with the bounds, and of their closing.
+fn closing_views<D: Domain>(alloc: Global, dom: &mut D) -> Result<(String, String), Fail> {
+    let pairs = paired(alloc, dom)?;
+    let closing = closed(alloc, dom, &pairs)?;
+    let before = view(alloc, dom, &pairs, 4)?;
+    let after = view(alloc, dom, &closing, 4)?;
+    Ok((before, after))
+}
+
+/// The view of what the random assignment leaves.
+fn splitting_view<D: Domain>(alloc: Global, dom: &mut D) -> Result<String, Fail> {
+    let (text, _) = SPLITTING;
+    let end = end_of(alloc, dom, text, 3)?;
+    let line = view(alloc, dom, &end, 3)?;
+    Ok(line)
+}
+
 #[test]
 fn a_join_keeps_what_both_branches_say(rt: HostRuntime) -> Result<(), Fail> {
-    let alloc = rt.alloc();
-    let mut full = FullDomain::new();
-    let mut dec = DecDomain::new();
-    let plain = joined(alloc, &mut full)?;
-    let blocks = joined(alloc, &mut dec)?;
-    assert_eq!(&rt; view(alloc, &full, &plain, 2)?.as_str(), BRANCHES.2);
-    assert_eq!(&rt; view(alloc, &dec, &blocks, 2)?.as_str(), BRANCHES.2);
+    let (_, _, want) = BRANCHES;
+    let plain = join_view(rt.alloc(), &mut FullDomain::new())?;
+    let blocks = join_view(rt.alloc(), &mut DecDomain::new())?;
+    assert_eq!(&rt; plain.as_str(), want);
+    assert_eq!(&rt; blocks.as_str(), want);
     Ok(())
 }
 
 #[test]
-fn closing_joins_blocks(rt: HostRuntime) -> Result<(), Fail> {
-    let alloc = rt.alloc();
-    let mut full = FullDomain::new();
-    let mut dec = DecDomain::new();
-    let plain = paired(alloc, &mut full)?;
-    let blocks = paired(alloc, &mut dec)?;
-    assert_eq!(&rt; view(alloc, &full, &plain, 4)?.as_str(), CLOSING.0);
-    assert_eq!(&rt; view(alloc, &dec, &blocks, 4)?.as_str(), CLOSING.0);
-    let plain = closed(alloc, &mut full, &plain)?;
-    let blocks = closed(alloc, &mut dec, &blocks)?;
-    assert_eq!(&rt; view(alloc, &full, &plain, 4)?.as_str(), CLOSING.1);
-    assert_eq!(&rt; view(alloc, &dec, &blocks, 4)?.as_str(), CLOSING.1);
+fn closing_relates_bounded_variables(rt: HostRuntime) -> Result<(), Fail> {
+    let (want, closed) = CLOSING;
+    let (before, after) = closing_views(rt.alloc(), &mut FullDomain::new())?;
+    assert_eq!(&rt; before.as_str(), want);
+    assert_eq!(&rt; after.as_str(), closed);
+    let (before, after) = closing_views(rt.alloc(), &mut DecDomain::new())?;
+    assert_eq!(&rt; before.as_str(), want);
+    assert_eq!(&rt; after.as_str(), closed);
     Ok(())
 }
 
 #[test]
 fn a_random_assignment_leaves_the_others_equal(rt: HostRuntime) -> Result<(), Fail> {
-    let alloc = rt.alloc();
-    let (text, want) = SPLITTING;
-    let mut full = FullDomain::new();
-    let mut dec = DecDomain::new();
-    let plain = end_of(alloc, &mut full, text, 3)?;
-    let blocks = end_of(alloc, &mut dec, text, 3)?;
-    assert_eq!(&rt; view(alloc, &full, &plain, 3)?.as_str(), want);
-    assert_eq!(&rt; view(alloc, &dec, &blocks, 3)?.as_str(), want);
+    let (_, want) = SPLITTING;
+    let plain = splitting_view(rt.alloc(), &mut FullDomain::new())?;
+    let blocks = splitting_view(rt.alloc(), &mut DecDomain::new())?;
+    assert_eq!(&rt; plain.as_str(), want);
+    assert_eq!(&rt; blocks.as_str(), want);
     Ok(())
 }
 
