@@ -1,5 +1,7 @@
 -- How many variables the value of a call has.
-use Rattle.std.proofs.Common.{◌≡◌, ℕ, Bool, List, ap, ◌∙◌}
+use Rattle.std.proofs.Common.{◌≡◌, ℕ, ◌+◌, Bool, List, [], ◌∷◌, ◌++◌, length, length-append, sym, ap, ◌∙◌, subst, arith}
+use Rattle.std.specs.List.{All}
+use Rattle.std.proofs.lemmas.List.Elements.{All-push}
 use Rattle.oct_def.specs.Octagon.{Octagon, top_value, tight_value, join_value, widen_value, narrow_value}
 use Rattle.spl_core.specs.Expression.{Expression}
 use Rattle.spl_core.specs.Condition.{Condition}
@@ -48,3 +50,10 @@ after_enter v args n r same = ap (λ (v : Octagon). v.dims) same
 pub after_back : (caller exit : Octagon) (args : List ℕ) (outputs : ℕ) (targets : List ℕ) (r : Octagon) → r ≡ back_value caller exit args outputs targets → r.dims ≡ caller.dims
 unfolding back_value
 after_back caller exit args outputs targets r same = ap (λ (v : Octagon). v.dims) same
+
+-- a list of so many values over n variables, and one more
+pub push-sized : {V : Type 0} → (m : V → Octagon) (n k : ℕ) (xs ys : List V) (x : V) → (length xs ≡ k) × All (λ v. (m v).dims ≡ n) xs
+    → (m x).dims ≡ n → ys ≡ xs ++ x ∷ [] → (length ys ≡ k + 1) × All (λ v. (m v).dims ≡ n) ys
+push-sized m n k xs ys x h sized same =
+    subst (λ zs. (length zs ≡ k + 1) × All (λ v. (m v).dims ≡ n) zs) (sym same)
+    (omega (arith, length-append xs (x ∷ []), h.0), All-push (λ v. (m v).dims ≡ n) xs x h.1 sized)

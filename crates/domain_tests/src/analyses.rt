@@ -1,5 +1,7 @@
 //! The same programs, analysed in both domains.
-ghost use Rattle.std.specs.Prelude.{◌≤◌};
+ghost use Rattle.std.specs.Prelude.{◌<◌, ◌≤◌, length};
+ghost use Rattle.spl_core.specs.Graph.{graph_of};
+ghost use Rattle.iteration.specs.Solution.{IsSolution};
 
 use crate::cores::{core_in, generated_core};
 use crate::programs::Writer;
@@ -7,7 +9,7 @@ use crate::views::{expect_same, view};
 use dec_domain::DecDomain;
 use domain::Domain;
 use full_oct::FullDomain;
-use iteration::{analyse, law_sizes};
+use iteration::{Solution, analyse, law_sizes};
 use spl_core::Core;
 use std::alloc::Global;
 use std::process::Abort;
@@ -26,7 +28,47 @@ const TEXTS: [&str; 9] = [
     "proc inc(n:int) returns (r:int) begin n = n + 1; r = n; end var a:int, b:int; begin b = inc(a); end",
 ];
 
-/// The rounds of an analysis, and at each point the view of the value that is stored and of the one that is read.
+/// The views of a point: of the value that is stored, and of the one that is read.
+fn point_views<D: Domain>(
+    alloc: Global,
+    dom: &mut D,
+    core: &Core,
+    solution: &Solution<D>,
+    delay: u32,
+    point: u32,
+) -> Result<(String, String), Fail>
+    requires point { point < length core.now.owners }
+    requires solved { IsSolution (graph_of core.now) delay 2 solution.now }
+{
+    law_sizes();
+    let dims = core.proc_at(core.owner(point)).dims;
+    let stored = view(alloc, dom, solution.value(point), dims)?;
+    let value = solution.read(alloc, dom, point)?;
+    let read = view(alloc, dom, &value, dims)?;
+    Ok((stored, read))
+}
+
+/// The rounds of a solution, and the views of each point.
+fn views_of<D: Domain>(
+    alloc: Global,
+    dom: &mut D,
+    core: &Core,
+    solution: &Solution<D>,
+    delay: u32,
+) -> Result<Vec<String>, Fail>
+    requires solved { IsSolution (graph_of core.now) delay 2 solution.now }
+{
+    let mut views = Vec::new(alloc);
+    views.push(format!(in alloc; "{} rounds", solution.rounds())?)?;
+    for point in 0..core.points() {
+        let (stored, read) = point_views(alloc, dom, core, solution, delay, point)?;
+        views.push(stored)?;
+        views.push(read)?;
+    }
+    Ok(views)
+}
+
+/// The views of an analysis.
 fn solution_views<D: Domain>(
     alloc: Global,
     dom: &mut D,
@@ -35,18 +77,8 @@ fn solution_views<D: Domain>(
 ) -> Result<Vec<String>, Fail>
     requires { delay ≤ 1000 }
 {
-    law_sizes();
     let solution = analyse(alloc, dom, core, delay, 2)?;
-    let mut views = Vec::new(alloc);
-    views.push(format!(in alloc; "{} rounds", solution.rounds())?)?;
-    for point in 0..core.points() {
-        let dims = core.proc_at(core.owner(point)).dims;
-        let stored = view(alloc, dom, solution.value(point), dims)?;
-        views.push(stored)?;
-        let value = solution.read(alloc, dom, point)?;
-        let read = view(alloc, dom, &value, dims)?;
-        views.push(read)?;
-    }
+    let views = views_of(alloc, dom, core, &solution, delay)?;
     Ok(views)
 }
 
