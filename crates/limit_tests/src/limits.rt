@@ -67,10 +67,11 @@ fn repeated_pieces(rt: HostRuntime) -> Result<(), Fail> {
             wanted_in_all(wanted),
             "{head}"
         );
-        for (told, times) in wanted {
+        for k in 0..wanted.len() {
+            let (told, times) = wanted[k];
             assert_eq!(rt;
                 occurrences(o.out.bytes(), told.as_bytes()),
-                *times,
+                times,
                 "{head}"
             );
         }
