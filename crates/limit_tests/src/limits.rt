@@ -67,14 +67,15 @@ fn repeated_pieces(rt: HostRuntime) -> Result<(), Fail> {
             wanted_in_all(wanted),
             "{head}"
         );
-        for k in 0..wanted.len() {
-            let (told, times) = wanted[k];
-            assert_eq!(rt;
-                occurrences(o.out.bytes(), told.as_bytes()),
-                times,
-                "{head}"
-            );
-        }
+        expect_texts(&rt, o.out.bytes(), wanted)?;
+    }
+    Ok(())
+}
+
+/// Asserts how often each of some texts stands in a report.
+fn expect_texts(rt: &impl Abort, report: &[u8], wanted: &[(&str, usize)]) -> Result<(), Fail> {
+    for (told, times) in wanted {
+        assert_eq!(rt; occurrences(report, told.as_bytes()), *times, "{told}");
     }
     Ok(())
 }
