@@ -9,6 +9,7 @@ use Rattle.spl_tree.specs.Program.{Declared, ProcMeaning}
 use Rattle.spl_types.specs.Checks.{is_among, declared_names, proc_named, has_counts, Procedure, all_decls, scope_of}
 use Rattle.spl_types.specs.Dimensions.{targets_in, input_name, copied, dimensions_of}
 use Rattle.spl_types.specs.Tables.{proc_names}
+use Rattle.spl_types.proofs.Accepting.{dims_count}
 use Rattle.spl_types.proofs.Numbering.{no_proc as no_meaning}
 use Rattle.spl_types.proofs.Copying.{eq_same, eq_refl}
 use Rattle.spl_types.proofs.Places.{place_found, place_none, place_along, nothing_found}
@@ -118,24 +119,6 @@ dim_written u x h g = by (either (is_among x (copied u)))
             let p : length (declared_names u.inputs) ≤ place_in (declared_names u.inputs ++ rest) x = past_first (declared_names u.inputs) rest x d (sym (ap (is_among x) s) ∙ h) in
             let q : place_in (declared_names (all_decls u)) x ≡ place_in (declared_names u.inputs ++ rest) x = ap (λ l. place_in l x) s in
             omega (arith, plain_dim (spoken_by u) x e, p, q, length-map u.inputs (λ (d : Declared). d.name.name))
-
--- how many dimensions
-pub dims_count : (u : Procedure) → length (dimensions_of u) ≡ length (declared_names (all_decls u)) + length (copied u)
-unfolding dimensions_of
-dims_count u =
-    let ins : List (List ℕ) = declared_names u.inputs in
-    let named : List (List ℕ) = map (input_name (targets_in u)) ins in
-    let a = length-map ins (input_name (targets_in u)) in
-    let b = length-append named (declared_names u.outputs ++ (declared_names u.locals ++ copied u)) in
-    let d = length-append (declared_names u.outputs) (declared_names u.locals ++ copied u) in
-    let e = length-append (declared_names u.locals) (copied u) in
-    let g = length-map (all_decls u) (λ (x : Declared). x.name.name) in
-    let h = length-append u.inputs (u.outputs ++ u.locals) in
-    let i = length-append u.outputs u.locals in
-    let j = length-map u.inputs (λ (x : Declared). x.name.name) in
-    let k = length-map u.outputs (λ (x : Declared). x.name.name) in
-    let l = length-map u.locals (λ (x : Declared). x.name.name) in
-    omega arith
 
 -- ---- procedures that are called
 

@@ -13,6 +13,7 @@ use Rattle.spl_types.specs.Accepted.{KeepsRules}
 use Rattle.spl_types.specs.Faults.{Kept}
 use Rattle.spl_types.specs.Tables.{proc_names}
 use Rattle.std.specs.Str.{bytes_eq}
+use Rattle.spl_types.proofs.Accepting.{dims_count, targets_same}
 use Rattle.spl_types.proofs.Copying.{eq_refl}
 use Rattle.spl_types.proofs.Firsts.{kept_first, kept_last}
 use Rattle.spl_core.specs.declared.parts.Proc.{Proc}
@@ -23,7 +24,7 @@ use Rattle.spl_core.specs.GraphFacts.{CopyFits, MoveFits, ArcFits, ProcFitsIn}
 use Rattle.control_points.specs.Laws.{ProgramsMakeGraphs}
 use Rattle.control_points.proofs.Counting.{rises_by}
 use Rattle.control_points.proofs.Fitting.{ArcActs, Within, block_fits, among_first, or_last}
-use Rattle.control_points.proofs.Framing.{AreProcs, framed, placed, dims_count, dim_below, dim_written, either, declared_split}
+use Rattle.control_points.proofs.Framing.{AreProcs, framed, placed, dim_below, dim_written, either, declared_split}
 use Rattle.control_points.proofs.Ranges.{Ranges, widen, block_ranges, AllApart, apart_append, outside, block_apart}
 use Rattle.control_points.proofs.Ranges.{calls_alone as apart_alone}
 
@@ -92,26 +93,6 @@ start_fits points u = mapped_all (CopyFits (proc_of points u)) (copy_of u) (copi
       target = (dim_written u x (input_declared u x w.among) w.passes, omega (arith, dims_count u, dim_below (spoken_by u) x (input_declared u x w.among)));
       origin = omega (arith, dims_count u, (placed (declared_names u.inputs) x w.among).within, length-map u.inputs (λ (d : Declared). d.name.name), length-map (all_decls u) (λ (d : Declared). d.name.name), length-append u.inputs (u.outputs ++ u.locals));
     }
-
--- the targets that were met don't depend on the points
-mutual
-  same_in : (m n : Met) (s : StmtTree) → m.targets ≡ n.targets → (met_in m s).targets ≡ (met_in n s).targets
-  same_in m n (skip at) h = h
-  same_in m n (halt at) h = h
-  same_in m n (fail at) h = h
-  same_in m n (assume e at) h = h
-  same_in m n (assign x e at) h = ap (λ ts. ts ++ x ∷ []) h
-  same_in m n (call targets called args at) h = ap (λ ts. ts ++ plain_names targets) h
-  same_in m n (if_then e a at) h = same_by m n a h
-  same_in m n (if_else e a b at) h = same_by (met_by m a) (met_by n a) b (same_by m n a h)
-  same_in m n (while_do e a at) h = same_by m n a h
-
-  same_by : (m n : Met) (b : BlockTree) → m.targets ≡ n.targets → (met_by m b).targets ≡ (met_by n b).targets
-  same_by m n empty h = h
-  same_by m n (more b s) h = same_in (met_by m b) (met_by n b) s (same_by m n b h)
-
-targets_same : (points : ℕ) (u : Procedure) → (met_by_end points u).targets ≡ targets_in u
-targets_same points u = same_by (with_point (met_before points)) (with_point (met_before 0)) u.body refl
 
 -- ---- the points of a procedure
 

@@ -7,6 +7,7 @@ use Rattle.std.proofs.lemmas.List.{map-append}
 use Rattle.spl_types.specs.Checks.{is_among, declared_names, Procedure, all_decls, Met, met_by, with_point, met_before}
 use Rattle.spl_tree.specs.Program.{Program, BlockTree}
 use Rattle.spl_types.specs.Dimensions.{targets_in, copied, dimensions_of, dimensions}
+use Rattle.spl_types.proofs.Accepting.{dims_count}
 use Rattle.spl_core.specs.declared.parts.Proc.{Proc}
 use Rattle.control_points.specs.Routines.{procedure_at}
 use Rattle.control_points.proofs.Tabling.{copies_last}
@@ -16,7 +17,7 @@ use Rattle.spl_core.specs.Parts.{Parts}
 use Rattle.control_points.specs.declared.built.Fail.{Fail}
 use Rattle.control_points.specs.Building.{Building, Adds, arcs_in}
 use Rattle.control_points.specs.Emitting.{copy_named, copies_named, EmitsBlock, AddsProcedure}
-use Rattle.control_points.proofs.Framing.{either, declared_split, dims_count}
+use Rattle.control_points.proofs.Framing.{either, declared_split}
 use Rattle.control_points.proofs.Fresh.{true_false}
 use Rattle.control_points.proofs.Graphing.{filtered, two_points}
 use Rattle.control_points.proofs.Storing.{adds_then}

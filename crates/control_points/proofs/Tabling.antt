@@ -18,12 +18,13 @@ use Rattle.spl_types.specs.Dimensions.{targets_in, input_name, copied, dimension
 use Rattle.spl_types.specs.Accepted.{KeepsRules}
 use Rattle.spl_types.specs.Faults.{Kept}
 use Rattle.spl_types.specs.Tables.{Distinct, proc_names}
+use Rattle.spl_types.proofs.Accepting.{dims_count}
 use Rattle.spl_types.proofs.Firsts.{kept_first}
 use Rattle.control_points.specs.CoreOf.{Spoken, spoken_by, points_by}
 use Rattle.control_points.specs.Routines.{procedure_at}
 use Rattle.control_points.proofs.Adding.{is_new}
 use Rattle.control_points.proofs.Fresh.{decls_fresh, procs_fresh, fresh_distinct}
-use Rattle.control_points.proofs.Framing.{either, dims_count, declared_split}
+use Rattle.control_points.proofs.Framing.{either, declared_split}
 use Rattle.control_points.proofs.Graphing.{AllKept, program_kept, procedures_count}
 
 -- ---- names that differ

@@ -1,8 +1,9 @@
 -- The marks of a value after a test, by the parts of the condition.
 use Rattle.std.proofs.Common.{◌≡◌, Bool, true, false, not, subst, sym}
 use Rattle.spl_core.specs.declared.parts.Cmp.{Cmp}
+use Rattle.spl_core.specs.declared.parts.Cmp.TheVariants as cmp
 use Rattle.spl_core.specs.Expression.{Expression}
-use Rattle.spl_core.specs.Condition.{Condition, Constant, Random, Not, And, Or, Compare}
+use Rattle.spl_core.specs.Condition.{Condition, Constant, Random, Not, And, Or, Compare, asked}
 use Rattle.dec_oct.specs.Value.{Decomposed, IsKept}
 use Rattle.dec_transfer.specs.TestMarks.{IsJoinOf, IsCompared, IsPassed, IsTested}
 
@@ -29,6 +30,19 @@ not-marks w c e v r p h = subst (λ x. IsTested x w v r) p (not-marked c w v r h
 pub compare-marks : (k : Cmp) (w : Bool) (a b : Expression) (c : Condition) (v r : Decomposed) → Compare k a b ≡ c → IsCompared k w a b v r → IsTested c w v r
 unfolding IsTested
 compare-marks k w a b c v r e h = subst (λ x. IsTested x w v r) e h
+
+-- the comparison that is asked for, which holds
+asked-compared : (r : Cmp) (w : Bool) (a b : Expression) (v x : Decomposed) → IsCompared (asked r w) true a b v x → IsCompared r w a b v x
+asked-compared r true a b v x h = h
+asked-compared cmp.Eq false a b v x h = h
+asked-compared cmp.Ne false a b v x h = h
+asked-compared cmp.Lt false a b v x h = h
+asked-compared cmp.Le false a b v x h = h
+asked-compared cmp.Gt false a b v x h = h
+asked-compared cmp.Ge false a b v x h = h
+
+pub asked-marks : (r k : Cmp) (w : Bool) (a b : Expression) (v x : Decomposed) → k ≡ asked r w → IsCompared k true a b v x → IsCompared r w a b v x
+asked-marks r k w a b v x e h = asked-compared r w a b v x (subst (λ i. IsCompared i true a b v x) e h)
 
 -- one condition and then the other
 pub and-true-marks : (w : Bool) (c d e : Condition) (v m r : Decomposed) → And c d ≡ e → w ≡ true → IsKept m → IsTested c true v m → IsTested d true m r → IsTested e w v r

@@ -21,55 +21,11 @@ use crate::ranges::ranges_of_all;
 use dec_lattice::join;
 use dec_oct::DecOct;
 use dec_parts::lowered;
-use interval_form::{Bounds, Form, OctBound, RangeTable, form_constraints, linearise};
+use interval_form::{Bounds, Form, OctBound, RangeTable, form_constraints, linearise_difference};
 use memory::NoMemory;
 use minplus_lanes::RowCount;
 use spl_core::{Cmp, Core, CoreCond, law_numbers};
 use std::alloc::Global;
-
-// The relation that holds where another one doesn't.
-fn contrary(relation: Cmp) -> Cmp
-    ensures value { (a b : Expression) (v : Octagon) → compare_value result true a b v ≡ compare_value relation false a b v }
-    ensures marks { (a b : Expression) (v r : Decomposed) → IsCompared result true a b v r → IsCompared relation false a b v r }
-{
-    match relation {
-        Cmp::Eq => Cmp::Ne,
-        Cmp::Ne => Cmp::Eq,
-        Cmp::Lt => Cmp::Ge,
-        Cmp::Le => Cmp::Gt,
-        Cmp::Gt => Cmp::Le,
-        Cmp::Ge => Cmp::Lt,
-    }
-}
-
-// The relation that holds where another one comes out as wanted.
-fn asked(relation: Cmp, wanted: bool) -> Cmp
-    ensures value { (a b : Expression) (v : Octagon) → compare_value result true a b v ≡ compare_value relation wanted a b v }
-    ensures marks { (a b : Expression) (v r : Decomposed) → IsCompared result true a b v r → IsCompared relation wanted a b v r }
-{
-    if wanted { relation } else { contrary(relation) }
-}
-
-// The form of a difference of two expressions.
-fn difference(
-    alloc: Global,
-    core: &Core,
-    a: u32,
-    b: u32,
-    ranges: &RangeTable,
-) -> Result<Form, NoMemory>
-    requires first { a < length core.now.exprs }
-    requires second { b < length core.now.exprs }
-    requires over_first { IsOver (length ranges.now) (expr_at (exprs_in core.now) a) }
-    requires over_second { IsOver (length ranges.now) (expr_at (exprs_in core.now) b) }
-    ensures form { IfOk result (λ f. form_in (length ranges.now) f ≡ difference_form ranges.now (linear_form ranges.now (expr_at (exprs_in core.now) a)) (linear_form ranges.now (expr_at (exprs_in core.now) b))) }
-    ensures over { IfOk result (λ f. IsFormOver (length ranges.now) f) }
-{
-    let left = linearise(alloc, core, a, ranges)?;
-    let right = linearise(alloc, core, b, ranges)?;
-    let form = left.minus(alloc, &right, ranges)?;
-    Ok(form)
-}
 
 // The value with bounds taken by minimum, closed.
 fn closed_with(
@@ -137,7 +93,7 @@ fn at_most(
         return Ok(DecOct::bottom(v.dims()));
     }
     let ranges = ranges_of_all(alloc, v)?;
-    let form = difference(alloc, core, a, b, &ranges)?;
+    let form = linearise_difference(alloc, core, a, b, &ranges)?;
     let after = restricted(alloc, v, &form, &ranges, count)?;
     Ok(after)
 }
@@ -164,7 +120,7 @@ fn below(
         return Ok(DecOct::bottom(v.dims()));
     }
     let ranges = ranges_of_all(alloc, v)?;
-    let form = difference(alloc, core, a, b, &ranges)?;
+    let form = linearise_difference(alloc, core, a, b, &ranges)?;
     let minus_one = Form::of_constant(alloc, -1)?;
     let and_one = form.minus(alloc, &minus_one, &ranges)?;
     let after = restricted(alloc, v, &and_one, &ranges, count)?;
@@ -345,7 +301,7 @@ pub fn test(
             Ok(r)
         }
         (CoreCond::Compare(relation, a, b), _) => {
-            let r = compared(alloc, v, core, asked(relation, wanted), a, b, count)?;
+            let r = compared(alloc, v, core, relation.asked(wanted), a, b, count)?;
             Ok(r)
         }
     }

@@ -8,7 +8,7 @@ use Rattle.oct_def.specs.Octagon.{Octagon, IsValueOver, bottom_value}
 use Rattle.spl_core.specs.declared.parts.Cmp.{Cmp}
 use Rattle.spl_core.specs.declared.parts.Cmp.TheVariants as cmp
 use Rattle.spl_core.specs.Expression.{Expression}
-use Rattle.spl_core.specs.Condition.{Compare}
+use Rattle.spl_core.specs.Condition.{Compare, asked}
 use Rattle.interval_form.specs.declared.interval.Interval.{Interval}
 use Rattle.interval_form.specs.Interval.{ranges_of}
 use Rattle.interval_form.specs.Form.{Form}
@@ -16,14 +16,10 @@ use Rattle.interval_form.specs.Linear.{difference_form}
 use Rattle.interval_form.specs.FormBounds.{bounded}
 use Rattle.interval_form.proofs.Bounding.{length-ranges_of}
 use Rattle.transfer_def.specs.Test.{restrict_at_most, restrict_below, at_most_value, below_value, compare_value, test_value}
+use Rattle.transfer_def.proofs.Conditions.{compare-asked}
 use Rattle.transfer_def.proofs.Tests.{value-test_value}
 use Rattle.full_oct.specs.Value.{octagon_of}
 use Rattle.full_oct.proofs.Forming.{value_bottom, value_matrix}
-
--- ---- forms
-
-pub two_forms : (ranges : List Interval) (a b x y : Form) → a ≡ x → b ≡ y → difference_form ranges a b ≡ difference_form ranges x y
-two_forms ranges a b x y p q = rw (p, q) refl
 
 pub rows-ranges : (n : ℕ) (m : Matrix) (ranges : List Interval) (rows : ℕ) → ranges ≡ ranges_of n m → rows ≡ 2 * n → rows ≡ 2 * length ranges
 rows-ranges n m ranges rows q h = h ∙ ap (λ k. 2 * k) (sym (ap length q ∙ length-ranges_of n m))
@@ -64,5 +60,5 @@ below_kept a b d m r k t = subst (IsValueOver d) (sym t) (value-test_value (Comp
 
 -- ---- comparisons
 
-pub compared-is : (k j r : Cmp) (w : Bool) (a b : Expression) (v x : Octagon) → j ≡ k → compare_value j true a b v ≡ compare_value r w a b v → x ≡ compare_value k true a b v → x ≡ compare_value r w a b v
-compared-is k j r w a b v x e h q = q ∙ (ap (λ (i : Cmp). compare_value i true a b v) (sym e) ∙ h)
+pub compared-is : (k j r : Cmp) (w : Bool) (a b : Expression) (v x : Octagon) → j ≡ k → j ≡ asked r w → x ≡ compare_value k true a b v → x ≡ compare_value r w a b v
+compared-is k j r w a b v x e h q = q ∙ (ap (λ (i : Cmp). compare_value i true a b v) (sym e ∙ h) ∙ compare-asked r w a b v)

@@ -14,52 +14,10 @@ ghost use Rattle.transfer_def.specs.Test.{restrict_at_most, restrict_below, at_m
 
 use crate::matrix::FullMatrix;
 use crate::value::{FullValue, shared};
-use interval_form::{Form, RangeTable, linearise};
+use interval_form::{Form, RangeTable, linearise_difference};
 use oct_def::NoMemory;
 use spl_core::{Cmp, Core, CoreCond, law_numbers};
 use std::alloc::Global;
-
-/// The relation that holds where another one doesn't.
-fn contrary(relation: Cmp) -> Cmp
-    ensures { (a b : Expression) (v : Octagon) → compare_value result true a b v ≡ compare_value relation false a b v }
-{
-    match relation {
-        Cmp::Eq => Cmp::Ne,
-        Cmp::Ne => Cmp::Eq,
-        Cmp::Lt => Cmp::Ge,
-        Cmp::Le => Cmp::Gt,
-        Cmp::Gt => Cmp::Le,
-        Cmp::Ge => Cmp::Lt,
-    }
-}
-
-/// The relation that holds where another one comes out as wanted.
-fn asked(relation: Cmp, wanted: bool) -> Cmp
-    ensures { (a b : Expression) (v : Octagon) → compare_value result true a b v ≡ compare_value relation wanted a b v }
-{
-    if wanted { relation } else { contrary(relation) }
-}
-
-/// The form of a difference of two expressions.
-fn difference(
-    alloc: Global,
-    core: &Core,
-    a: u32,
-    b: u32,
-    ranges: &RangeTable,
-) -> Result<Form, NoMemory>
-    requires first { a < length core.now.exprs }
-    requires second { b < length core.now.exprs }
-    requires over_first { IsOver (length ranges.now) (expr_at (exprs_in core.now) a) }
-    requires over_second { IsOver (length ranges.now) (expr_at (exprs_in core.now) b) }
-    ensures form { IfOk result (λ f. form_in (length ranges.now) f ≡ difference_form ranges.now (linear_form ranges.now (expr_at (exprs_in core.now) a)) (linear_form ranges.now (expr_at (exprs_in core.now) b))) }
-    ensures over { IfOk result (λ f. IsFormOver (length ranges.now) f) }
-{
-    let left = linearise(alloc, core, a, ranges)?;
-    let right = linearise(alloc, core, b, ranges)?;
-    let form = left.minus(alloc, &right, ranges)?;
-    Ok(form)
-}
 
 impl FullMatrix {
     /// The matrix where a form is at most 0; it is closed. `None` is Bottom.
@@ -102,7 +60,7 @@ impl FullMatrix {
         ensures { IfOk result (λ m. m ≡ restrict_at_most dims (expr_at (exprs_in core.now) a) (expr_at (exprs_in core.now) b) self.now) }
     {
         let ranges = self.ranges(alloc, dims)?;
-        let form = difference(alloc, core, a, b, &ranges)?;
+        let form = linearise_difference(alloc, core, a, b, &ranges)?;
         let after = self.restricted(alloc, &form, &ranges)?;
         Ok(after)
     }
@@ -125,7 +83,7 @@ impl FullMatrix {
         ensures { IfOk result (λ m. m ≡ restrict_below dims (expr_at (exprs_in core.now) a) (expr_at (exprs_in core.now) b) self.now) }
     {
         let ranges = self.ranges(alloc, dims)?;
-        let form = difference(alloc, core, a, b, &ranges)?;
+        let form = linearise_difference(alloc, core, a, b, &ranges)?;
         let minus_one = Form::of_constant(alloc, -1)?;
         let and_one = form.minus(alloc, &minus_one, &ranges)?;
         let after = self.restricted(alloc, &and_one, &ranges)?;
@@ -213,7 +171,7 @@ impl FullValue {
         requires over_second { IsOver self.now.dims (expr_at (exprs_in core.now) b) }
         ensures { IfOk result (λ v. v ≡ compare_value relation wanted (expr_at (exprs_in core.now) a) (expr_at (exprs_in core.now) b) self.now) }
     {
-        match asked(relation, wanted) {
+        match relation.asked(wanted) {
             Cmp::Eq => {
                 let v = self.equal(alloc, core, a, b)?;
                 Ok(v)

@@ -23,6 +23,16 @@ compares cmp.Le x y = int_le x y
 compares cmp.Gt x y = int_lt y x
 compares cmp.Ge x y = int_le y x
 
+-- the comparison that holds exactly where another one comes out as wanted
+abbrev pub asked : Cmp → Bool → Cmp
+asked r true = r
+asked cmp.Eq false = cmp.Ne
+asked cmp.Ne false = cmp.Eq
+asked cmp.Lt false = cmp.Ge
+asked cmp.Le false = cmp.Gt
+asked cmp.Gt false = cmp.Le
+asked cmp.Ge false = cmp.Lt
+
 -- a condition may come out so in a state
 abbrev pub May : Condition → List ℤ → Bool → Type 0
 May (Constant value) s b = b ≡ value

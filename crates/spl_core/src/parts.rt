@@ -1,4 +1,6 @@
 //! The parts of a core: procedures, points, edges, and the expressions and conditions on them.
+ghost use Rattle.std.specs.Prelude.{◌≡◌};
+ghost use Rattle.spl_core.specs.Condition.{asked};
 
 /// A span of the core's list of dimensions: the arguments or the targets of a call, or the pairs of a start.
 #[derive(Clone, Copy, Debug, Drop, PartialEq, Eq)]
@@ -70,6 +72,23 @@ pub enum Cmp {
     Le,
     Gt,
     Ge,
+}
+
+impl Cmp {
+    /// The comparison that holds exactly where this one comes out as wanted.
+    pub fn asked(self, wanted: bool) -> Cmp
+        ensures { result ≡ asked self wanted }
+    {
+        match (self, wanted) {
+            (relation, true) => relation,
+            (Cmp::Eq, false) => Cmp::Ne,
+            (Cmp::Ne, false) => Cmp::Eq,
+            (Cmp::Lt, false) => Cmp::Ge,
+            (Cmp::Le, false) => Cmp::Gt,
+            (Cmp::Gt, false) => Cmp::Le,
+            (Cmp::Ge, false) => Cmp::Lt,
+        }
+    }
 }
 
 /// A condition over conditions with lower numbers, or a comparison of two expressions.

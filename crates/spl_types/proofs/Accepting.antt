@@ -35,26 +35,32 @@ mutual
   same_by m n empty h = h
   same_by m n (more b s) h = same_in (met_by m b) (met_by n b) s (same_by m n b h)
 
-targets_same : (points : ℕ) (u : Procedure) → (met_by_end points u).targets ≡ targets_in u
+pub targets_same : (points : ℕ) (u : Procedure) → (met_by_end points u).targets ≡ targets_in u
 targets_same points u = same_by (with_point (met_before points)) (with_point (met_before 0)) u.body refl
 
 -- how many dimensions
-length-dimensions : (procs : List ProcMeaning) (u : Procedure) → length (dimensions_of u) ≡ dimension_count (scope_of procs u) (targets_in u)
+pub dims_count : (u : Procedure) → length (dimensions_of u) ≡ length (declared_names (all_decls u)) + length (copied u)
 unfolding dimensions_of
-length-dimensions procs u =
+dims_count u =
     let ins : List (List ℕ) = declared_names u.inputs in
     let named : List (List ℕ) = map (input_name (targets_in u)) ins in
     let a = length-map ins (input_name (targets_in u)) in
     let b = length-append named (declared_names u.outputs ++ (declared_names u.locals ++ copied u)) in
     let d = length-append (declared_names u.outputs) (declared_names u.locals ++ copied u) in
     let e = length-append (declared_names u.locals) (copied u) in
-    let f = length-filter (λ x. is_among x (targets_in u)) ins in
     let g = length-map (all_decls u) (λ (x : Declared). x.name.name) in
     let h = length-append u.inputs (u.outputs ++ u.locals) in
     let i = length-append u.outputs u.locals in
     let j = length-map u.inputs (λ (x : Declared). x.name.name) in
     let k = length-map u.outputs (λ (x : Declared). x.name.name) in
     let l = length-map u.locals (λ (x : Declared). x.name.name) in
+    omega arith
+
+length-dimensions : (procs : List ProcMeaning) (u : Procedure) → length (dimensions_of u) ≡ dimension_count (scope_of procs u) (targets_in u)
+length-dimensions procs u =
+    let c = dims_count u in
+    let f = length-filter (λ x. is_among x (targets_in u)) (declared_names u.inputs) in
+    let g = length-map (all_decls u) (λ (x : Declared). x.name.name) in
     omega arith
 
 -- what is stored of a procedure that was walked

@@ -5,12 +5,13 @@ use Rattle.oct_def.specs.Table.{Matrix}
 use Rattle.oct_def.specs.Tight.{tight}
 use Rattle.oct_def.specs.Octagon.{Octagon, join_value}
 use Rattle.spl_core.specs.declared.parts.Cmp.{Cmp}
+use Rattle.spl_core.specs.declared.parts.Cmp.TheVariants as cmp
 use Rattle.spl_core.specs.declared.parts.CoreCond.{CoreCond}
 use Rattle.spl_core.specs.Parts.{Parts}
 use Rattle.spl_core.specs.Facts.{CondFits, IsCore}
 use Rattle.spl_core.specs.Laws.{NumbersStandForNodes}
 use Rattle.spl_core.specs.Expression.{Expression, IsOver}
-use Rattle.spl_core.specs.Condition.{Condition, Constant, Random, Not, And, Or, Compare, IsConditionOver}
+use Rattle.spl_core.specs.Condition.{Condition, Constant, Random, Not, And, Or, Compare, IsConditionOver, asked}
 use Rattle.spl_core.specs.Graph.{exprs_in, cond_at, cond_over, conds_in}
 use Rattle.spl_runs.proofs.Parted.{condition_node}
 use Rattle.interval_form.specs.declared.interval.Interval.{Interval}
@@ -162,3 +163,15 @@ or-true w c d e v r s t p b h k j =
 
 pub found : (c : Parts) → NumbersStandForNodes → IsCore c → (k : ℕ) (r x : CoreCond) → k < length c.conds → r ≡ get_or c.conds k r → r ≡ x → cond_over (exprs_in c) (conds_in c) x ≡ cond_at (conds_in c) k
 found c law w k r x l h e = ap (cond_over (exprs_in c) (conds_in c)) (sym e) ∙ condition_node c law w k r l h
+
+-- ---- comparisons
+
+-- a comparison that comes out as wanted is the one that is asked for, which holds
+pub compare-asked : (r : Cmp) (w : Bool) (a b : Expression) (v : Octagon) → compare_value (asked r w) true a b v ≡ compare_value r w a b v
+compare-asked r true a b v = refl
+compare-asked cmp.Eq false a b v = refl
+compare-asked cmp.Ne false a b v = refl
+compare-asked cmp.Lt false a b v = refl
+compare-asked cmp.Le false a b v = refl
+compare-asked cmp.Gt false a b v = refl
+compare-asked cmp.Ge false a b v = refl

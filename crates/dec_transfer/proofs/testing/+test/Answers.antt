@@ -2,9 +2,10 @@ use Rattle.std.proofs.Common.{◌≡◌, ◌<◌, length, true, false, ap, ◌�
 use Rattle.spl_core.specs.declared.parts.CoreCond.TheVariants as cond
 use Rattle.spl_core.specs.Condition.{Constant, Random, Not, And, Or, Compare}
 use Rattle.spl_core.specs.Graph.{expr_at, exprs_in, cond_at, conds_in}
+use Rattle.transfer_def.specs.Test.{compare_value}
 use Rattle.dec_oct.specs.Value.{octagon}
-use Rattle.transfer_def.proofs.Conditions.{found, condition_fits, condition_over, dims-test, over-tested, dims-tested, constant-tested, random-tested, not-tested, compare-tested, and-true, and-false, or-true, or-false}
-use Rattle.dec_transfer.proofs.Marked.{constant-marks, random-marks, not-marks, compare-marks, and-true-marks, and-false-marks, or-true-marks, or-false-marks}
+use Rattle.transfer_def.proofs.Conditions.{found, condition_fits, condition_over, dims-test, over-tested, dims-tested, constant-tested, random-tested, not-tested, compare-tested, compare-asked, and-true, and-false, or-true, or-false}
+use Rattle.dec_transfer.proofs.Marked.{constant-marks, random-marks, not-marks, compare-marks, asked-marks, and-true-marks, and-false-marks, or-true-marks, or-false-marks}
 use Rattle.dec_transfer.proofs.testing.+test.Goals as goal
 
 pub test-requires-in-And-true-2 : goal.test-requires-in-And-true-2
@@ -137,7 +138,7 @@ returns-in_ok-r-in-Compare-default-clause-value t c =
     let a = expr_at exprs c.in-Compare-default.a in
     let b = expr_at exprs c.in-Compare-default.b in
     let e : Compare c.in-Compare-default.relation a b ≡ whole = found c.args.core.now c.law_numbers.ensures c.cond_at.ensures.known c.args.cond c.cond_at.result (cond.Compare c.in-Compare-default.relation c.in-Compare-default.a c.in-Compare-default.b) c.requires.known c.cond_at.ensures.found c.in-Compare-default.is-0 in
-    compare-tested c.in-Compare-default.relation c.args.wanted a b whole v (octagon c.in_ok-r-in-Compare-default.r) e (c.in_ok-r-in-Compare-default.ensures.value ∙ c.asked.ensures.value a b v)
+    compare-tested c.in-Compare-default.relation c.args.wanted a b whole v (octagon c.in_ok-r-in-Compare-default.r) e (c.in_ok-r-in-Compare-default.ensures.value ∙ (ap (λ k. compare_value k true a b v) c.asked.ensures ∙ compare-asked c.in-Compare-default.relation c.args.wanted a b v))
 
 pub returns-in_ok-r-in-True-default-clause-marks : goal.returns-in_ok-r-in-True-default-clause-marks
 returns-in_ok-r-in-True-default-clause-marks t c =
@@ -214,4 +215,4 @@ returns-in_ok-r-in-Compare-default-clause-marks t c =
     let a = expr_at exprs c.in-Compare-default.a in
     let b = expr_at exprs c.in-Compare-default.b in
     let e : Compare c.in-Compare-default.relation a b ≡ whole = found c.args.core.now c.law_numbers.ensures c.cond_at.ensures.known c.args.cond c.cond_at.result (cond.Compare c.in-Compare-default.relation c.in-Compare-default.a c.in-Compare-default.b) c.requires.known c.cond_at.ensures.found c.in-Compare-default.is-0 in
-    compare-marks c.in-Compare-default.relation c.args.wanted a b whole c.args.v.now c.in_ok-r-in-Compare-default.r e (c.asked.ensures.marks a b c.args.v.now c.in_ok-r-in-Compare-default.r c.in_ok-r-in-Compare-default.ensures.marks)
+    compare-marks c.in-Compare-default.relation c.args.wanted a b whole c.args.v.now c.in_ok-r-in-Compare-default.r e (asked-marks c.in-Compare-default.relation c.asked.result c.args.wanted a b c.args.v.now c.in_ok-r-in-Compare-default.r c.asked.ensures c.in_ok-r-in-Compare-default.ensures.marks)

@@ -11,13 +11,13 @@ returns-then-is_none-clause-value c =
     let n : c.args.v.now.blocks ≡ None = search rules in
     below-none (expr_at trees c.args.a) (expr_at trees c.args.b) c.args.v.now c.bottom.result c.dims.result c.dims.ensures n c.bottom.ensures.value
 
-pub difference-requires-clause-over_first : goal.difference-requires-clause-over_first
-difference-requires-clause-over_first c =
+pub linearise_difference-requires-clause-over_first : goal.linearise_difference-requires-clause-over_first
+linearise_difference-requires-clause-over_first c =
     let s : IsSome c.args.v.now.blocks = search rules in
     over-ranges c.args.v.now.dims c.args.v.now.blocks c.in_ok-ranges.ranges (expr_at (exprs_in c.args.core.now) c.args.a) s c.in_ok-ranges.ensures c.requires.over_first
 
-pub difference-requires-clause-over_second : goal.difference-requires-clause-over_second
-difference-requires-clause-over_second c =
+pub linearise_difference-requires-clause-over_second : goal.linearise_difference-requires-clause-over_second
+linearise_difference-requires-clause-over_second c =
     let s : IsSome c.args.v.now.blocks = search rules in
     over-ranges c.args.v.now.dims c.args.v.now.blocks c.in_ok-ranges.ranges (expr_at (exprs_in c.args.core.now) c.args.b) s c.in_ok-ranges.ensures c.requires.over_second
 

@@ -6,11 +6,11 @@ use Rattle.transfer_def.proofs.Conditions.{at_most-is}
 use Rattle.full_oct.proofs.Testing.{rows-ranges}
 use Rattle.full_oct.proofs.matrix.FullMatrix.at_most.Goals as goal
 
-pub difference-requires-clause-over_first : goal.difference-requires-clause-over_first
-difference-requires-clause-over_first c = over-ranges c.args.dims c.args.self.now c.in_ok-ranges.ranges (expr_at (exprs_in c.args.core.now) c.args.a) c.in_ok-ranges.ensures.ranges c.requires.over_first
+pub linearise_difference-requires-clause-over_first : goal.linearise_difference-requires-clause-over_first
+linearise_difference-requires-clause-over_first c = over-ranges c.args.dims c.args.self.now c.in_ok-ranges.ranges (expr_at (exprs_in c.args.core.now) c.args.a) c.in_ok-ranges.ensures.ranges c.requires.over_first
 
-pub difference-requires-clause-over_second : goal.difference-requires-clause-over_second
-difference-requires-clause-over_second c = over-ranges c.args.dims c.args.self.now c.in_ok-ranges.ranges (expr_at (exprs_in c.args.core.now) c.args.b) c.in_ok-ranges.ensures.ranges c.requires.over_second
+pub linearise_difference-requires-clause-over_second : goal.linearise_difference-requires-clause-over_second
+linearise_difference-requires-clause-over_second c = over-ranges c.args.dims c.args.self.now c.in_ok-ranges.ranges (expr_at (exprs_in c.args.core.now) c.args.b) c.in_ok-ranges.ensures.ranges c.requires.over_second
 
 pub restricted-requires-clause-rows : goal.restricted-requires-clause-rows
 restricted-requires-clause-rows c = rows-ranges c.args.dims c.args.self.now c.in_ok-ranges.ranges (length c.args.self.now) c.in_ok-ranges.ensures.ranges c.requires.rows
