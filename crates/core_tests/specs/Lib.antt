@@ -1,1 +1,1 @@
-pub mod Multiplied
+pub mod Cores

@@ -1,7 +1,7 @@
 //! Worked cores.
 ghost use Rattle.std.specs.Prelude.{◌≡◌, IfOk};
 ghost use Rattle.spl_core.specs.Examples.{incremented, squared};
-ghost use Rattle.core_tests.specs.Multiplied.{multiplied};
+ghost use Rattle.core_tests.specs.Cores.{multiplied};
 
 use spl_core::{Action, Cmp, Core, CoreCond, CoreExpr, CoreParts, Edge, Proc, Span, law_examples};
 use std::alloc::{AllocError, Global};

@@ -42,89 +42,76 @@ fn clamps(rt: HostRuntime) {
 /// The ends of an interval; one that is None is unbounded.
 type Ends = (Option<i64>, Option<i64>);
 
-/// The ranges of x and y, and the value of `x * y` in them: the least and the greatest product of two ends, where 0 times
-/// an unbounded end is 0. A product past the limit is no end on its own side, and the limit on the other one.
-const PRODUCTS: [(Ends, Ends, Ends); 22] = [
-    // x is 2^61: the products are 2^122, or 2^122 and its negative, or one of these and 0
-    (
-        (Some(TOP), Some(TOP)),
-        (Some(TOP), Some(TOP)),
-        (Some(TOP), None),
-    ),
-    ((Some(TOP), Some(TOP)), (Some(LOW), Some(TOP)), (None, None)),
-    (
-        (Some(TOP), Some(TOP)),
-        (Some(LOW), Some(0)),
-        (None, Some(0)),
-    ),
-    (
-        (Some(TOP), Some(TOP)),
-        (Some(0), Some(1)),
-        (Some(0), Some(TOP)),
-    ),
-    (
-        (Some(TOP), Some(TOP)),
-        (Some(LOW), Some(LOW)),
-        (None, Some(LOW)),
-    ),
-    // x is from -2^61 to 2^61
-    ((Some(LOW), Some(TOP)), (Some(TOP), Some(TOP)), (None, None)),
-    ((Some(LOW), Some(TOP)), (Some(LOW), Some(TOP)), (None, None)),
-    ((Some(LOW), Some(TOP)), (Some(LOW), Some(0)), (None, None)),
-    (
-        (Some(LOW), Some(TOP)),
-        (Some(0), Some(1)),
-        (Some(LOW), Some(TOP)),
-    ),
-    // x is from -2^61 to 0
-    (
-        (Some(LOW), Some(0)),
-        (Some(TOP), Some(TOP)),
-        (None, Some(0)),
-    ),
-    ((Some(LOW), Some(0)), (Some(LOW), Some(0)), (Some(0), None)),
-    (
-        (Some(LOW), Some(0)),
-        (Some(0), Some(1)),
-        (Some(LOW), Some(0)),
-    ),
-    // x is 0 or 1
-    ((Some(0), Some(1)), (Some(0), Some(1)), (Some(0), Some(1))),
-    // one side is half open
-    ((Some(0), None), (Some(TOP), Some(TOP)), (Some(0), None)),
-    ((Some(0), None), (Some(LOW), Some(0)), (None, Some(0))),
-    ((Some(0), Some(1)), (Some(TOP), None), (Some(0), None)),
-    ((Some(TOP), Some(TOP)), (None, Some(LOW)), (None, Some(LOW))),
-    ((None, Some(LOW)), (None, Some(LOW)), (Some(TOP), None)),
-    ((Some(0), Some(0)), (None, None), (Some(0), Some(0))),
-    // products at the limit, and one past it on either side
-    (
-        (Some(2), Some(2)),
-        (Some(1152921504606846976), Some(1152921504606846976)),
-        (Some(TOP), Some(TOP)),
-    ),
-    (
-        (Some(3), Some(3)),
-        (Some(768614336404564651), Some(768614336404564651)),
-        (Some(TOP), None),
-    ),
-    (
-        (Some(-3), Some(-3)),
-        (Some(768614336404564651), Some(768614336404564651)),
-        (None, Some(LOW)),
-    ),
+const ZERO: Ends = (Some(0), Some(0));
+
+const BIT: Ends = (Some(0), Some(1));
+
+const TOP_ALONE: Ends = (Some(TOP), Some(TOP));
+
+const LOW_ALONE: Ends = (Some(LOW), Some(LOW));
+
+const LOW_TO_TOP: Ends = (Some(LOW), Some(TOP));
+
+const LOW_TO_0: Ends = (Some(LOW), Some(0));
+
+const ZERO_TO_TOP: Ends = (Some(0), Some(TOP));
+
+const FROM_0: Ends = (Some(0), None);
+
+const FROM_TOP: Ends = (Some(TOP), None);
+
+const TO_0: Ends = (None, Some(0));
+
+const TO_LOW: Ends = (None, Some(LOW));
+
+const ALL: Ends = (None, None);
+
+/// 2^60.
+const HALF: Ends = (Some(1152921504606846976), Some(1152921504606846976));
+
+/// A third of 2^61 + 1.
+const THIRD: Ends = (Some(768614336404564651), Some(768614336404564651));
+
+/// The ranges of x and y, and the value of `x * y` in them: from the least to the greatest product of two ends, where 0
+/// times an unbounded end is 0. A least product below -2^61 is no end, and one above 2^61 becomes 2^61; for the greatest one
+/// it is the other way round.
+const PRODUCTS: [(Ends, Ends, Ends); 24] = [
+    (TOP_ALONE, TOP_ALONE, FROM_TOP),
+    (TOP_ALONE, LOW_ALONE, TO_LOW),
+    (LOW_ALONE, LOW_ALONE, FROM_TOP),
+    (TOP_ALONE, LOW_TO_TOP, ALL),
+    (TOP_ALONE, LOW_TO_0, TO_0),
+    (TOP_ALONE, BIT, ZERO_TO_TOP),
+    (LOW_TO_TOP, TOP_ALONE, ALL),
+    (LOW_TO_TOP, LOW_TO_TOP, ALL),
+    (LOW_TO_TOP, LOW_TO_0, ALL),
+    (LOW_TO_TOP, BIT, LOW_TO_TOP),
+    (LOW_TO_0, TOP_ALONE, TO_0),
+    (LOW_TO_0, LOW_TO_0, FROM_0),
+    (LOW_TO_0, BIT, LOW_TO_0),
+    (BIT, BIT, BIT),
+    (FROM_0, TOP_ALONE, FROM_0),
+    (FROM_0, LOW_TO_0, TO_0),
+    (BIT, FROM_TOP, FROM_0),
+    (TOP_ALONE, TO_LOW, TO_LOW),
+    (TO_LOW, TO_LOW, FROM_TOP),
+    (ZERO, ALL, ZERO),
+    (ALL, ZERO, ZERO),
+    ((Some(2), Some(2)), HALF, TOP_ALONE),
+    ((Some(3), Some(3)), THIRD, FROM_TOP),
+    ((Some(-3), Some(-3)), THIRD, TO_LOW),
 ];
 
-/// The range of x, and the value of `x * x` in it: as that of a product of two numbers of the range.
+/// The range of x, and the value of `x * x` in it: it is that of a product of any two numbers of the range.
 const SQUARES: [(Ends, Ends); 8] = [
-    ((Some(TOP), Some(TOP)), (Some(TOP), None)),
-    ((Some(LOW), Some(TOP)), (None, None)),
-    ((Some(LOW), Some(0)), (Some(0), None)),
-    ((Some(0), Some(1)), (Some(0), Some(1))),
-    ((Some(0), None), (Some(0), None)),
-    ((None, Some(0)), (Some(0), None)),
-    ((None, Some(LOW)), (Some(TOP), None)),
-    ((None, None), (None, None)),
+    (TOP_ALONE, FROM_TOP),
+    (LOW_TO_TOP, ALL),
+    (LOW_TO_0, FROM_0),
+    (BIT, BIT),
+    (FROM_0, FROM_0),
+    (TO_0, FROM_0),
+    (TO_LOW, FROM_TOP),
+    (ALL, ALL),
 ];
 
 /// The interval with these ends.
@@ -155,7 +142,7 @@ fn squares(rt: HostRuntime) -> Result<(), Fail> {
     for (k, (x, want)) in SQUARES.iter().enumerate() {
         let ranges = Two {
             x: interval(*x),
-            y: interval((Some(0), Some(0))),
+            y: interval(ZERO),
         };
         let form = linearise(rt.alloc(), &core, 1, &ranges)?;
         assert_eq!(rt; form.value(&ranges), interval(*want), "square {k}");
