@@ -4,8 +4,8 @@ ghost use Rattle.std.specs.Prelude.{◌≤◌, IfOk, length};
 use crate::cores::{incrementing, squaring};
 use run_text::run_text;
 use spl_core::Core;
-use spl_runs::{ChoiceFault, Choices, ReplayFault, Run, Seen, law_examples, read_choices, replay};
-use std::alloc::{AllocError, Global};
+use spl_runs::{ChoiceFault, Choices, ReplayFault, law_examples, read_choices, replay};
+use std::alloc::Global;
 use std::test::Fail;
 
 /// The choices of a text; any other text, and one with many steps, fails the test.
