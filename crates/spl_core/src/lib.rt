@@ -7,8 +7,6 @@
 mod laws;
 mod parts;
 mod program;
-#[cfg(test)]
-mod tests;
 
 pub use laws::{law_examples, law_graph, law_literals, law_numbers};
 pub use parts::{Action, Cmp, CoreCond, CoreExpr, CoreParts, Edge, Proc, Span};

@@ -12,8 +12,6 @@ mod leaving;
 mod read;
 mod reader;
 mod stack;
-#[cfg(test)]
-mod tests;
 mod value;
 
 pub use choices::{Choices, Step};

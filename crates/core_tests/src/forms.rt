@@ -1,12 +1,14 @@
-ghost use Rattle.std.specs.Prelude.{◌≡◌, ◌<◌, ◌≤ℤ◌, IfOk, List, [], ◌∷◌, length};
+//! Linear forms and the bounds of `form <= 0`, worked out by hand.
+ghost use Rattle.std.specs.Prelude.{◌<◌, ◌≤ℤ◌, IfOk};
 ghost use Rattle.oct_def.specs.Bound.{low_limit, top_limit};
-ghost use Rattle.spl_core.specs.Examples.{squared};
 ghost use Rattle.interval_form.specs.Sparse.{IsFormOver};
 
-use crate::{Bounds, Form, Interval, OctBound, Ranges, form_constraints, linearise};
+use crate::cores::squaring;
+use crate::ranges::Two;
+use interval_form::{Bounds, Form, Interval, OctBound, form_constraints, linearise};
 use oct_def::NoMemory;
-use spl_core::{Action, Core, CoreExpr, CoreParts, Edge, Proc, Span, law_examples, law_numbers};
-use std::alloc::{AllocError, Global};
+use spl_core::law_numbers;
+use std::alloc::Global;
 use std::test::Fail;
 
 const ALL: Interval = Interval {
@@ -23,26 +25,6 @@ const TO_10: Interval = Interval {
     low: Some(0),
     high: Some(10),
 };
-
-/// The ranges of x, which is dimension 0, and of y, which is dimension 1.
-#[derive(Clone, Copy)]
-struct Two {
-    x: Interval,
-    y: Interval,
-}
-
-impl Ranges for Two {
-    ghost intervals = { λ t. t.x ∷ t.y ∷ [] };
-
-    fn dims(&self) -> u32 {
-        2
-    }
-
-    #[tactic(auto, unfolding(crate::specs::Interval::range_at))]
-    fn range(&self, v: u32) -> Interval {
-        if v == 0 { self.x } else { self.y }
-    }
-}
 
 /// `x + y - k`, or `x + x - k`.
 fn sum_less(alloc: Global, second: u32, k: i64, ranges: &Two) -> Result<Form, NoMemory>
@@ -70,7 +52,6 @@ fn bounds_of_sums(rt: HostRuntime) -> Result<(), Fail> {
     let alloc = rt.alloc();
     let wide = Two { x: ALL, y: ALL };
     let small = Two { x: TO_10, y: TO_10 };
-    let none: [OctBound; 0] = [];
     let cases: [(&str, u32, i64, Two, &[OctBound]); 5] = [
         (
             "x + y <= 5, each from 0 to 10",
@@ -117,50 +98,10 @@ fn least_value_above_0(rt: HostRuntime) -> Result<(), Fail> {
     Ok(())
 }
 
-/// `var x:int; begin x = x * x; end`
-fn square(alloc: Global) -> Result<Core, AllocError>
-    ensures { IfOk result (λ c. c ≡ squared) }
-{
-    law_examples();
-    let main = Proc {
-        inputs: 0,
-        outputs: 0,
-        dims: 1,
-        entry: 0,
-        exit: 2,
-    };
-    let procs = vec![in alloc; main]?;
-    let owners = vec![in alloc; 0, 0, 0]?;
-    let start = Action::Start {
-        pairs: Span { first: 0, count: 0 },
-    };
-    let edges = vec![in alloc;
-        Edge {
-            source: 0,
-            target: 1,
-            action: start
-        },
-        Edge {
-            source: 1,
-            target: 2,
-            action: Action::Assign { target: 0, expr: 1 }
-        },
-    ]?;
-    let exprs = vec![in alloc; CoreExpr::Variable(0), CoreExpr::Mul(0, 0)]?;
-    Ok(Core::from_parts(CoreParts {
-        procs,
-        owners,
-        edges,
-        dims: Vec::new(alloc),
-        exprs,
-        conds: Vec::new(alloc),
-    }))
-}
-
 #[test]
 fn form_of_a_square(rt: HostRuntime) -> Result<(), Fail> {
     let alloc = rt.alloc();
-    let core = square(alloc)?;
+    let core = squaring(alloc)?;
     law_numbers();
     let small = Two { x: TO_10, y: ALL };
     let form = linearise(alloc, &core, 1, &small)?;

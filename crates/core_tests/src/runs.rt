@@ -1,134 +1,24 @@
-ghost use Rattle.std.specs.Prelude.{◌≡◌, IfOk};
-ghost use Rattle.spl_core.specs.Examples.{incremented, squared};
+//! Texts of choices, the runs that they give, and the texts of those, worked out by hand.
+ghost use Rattle.std.specs.Prelude.{◌≤◌, IfOk, length};
 
-use crate::{ChoiceFault, ReplayFault, law_examples, read_choices, replay};
-use spl_core::{Action, Core, CoreExpr, CoreParts, Edge, Proc, Span};
-use std::alloc::{AllocError, Global};
+use crate::cores::{incrementing, squaring};
+use run_text::run_text;
+use spl_core::Core;
+use spl_runs::{ChoiceFault, Choices, ReplayFault, law_examples, read_choices, replay};
+use std::alloc::Global;
 use std::test::Fail;
 
-/// The edges of `called`.
-fn call_edges(alloc: Global) -> Result<Vec<Edge>, AllocError>
-    ensures { IfOk result (λ v. v.items ≡ incremented.edges) }
+/// The choices of a text; any other text, and one with many steps, fails the test.
+fn choices_in(alloc: Global, text: &str) -> Result<Choices, Fail>
+    ensures few { IfOk result (λ c. length c.steps.items ≤ 100) }
 {
-    let start = Action::Start {
-        pairs: Span { first: 0, count: 2 },
-    };
-    let add = Action::Assign { target: 2, expr: 2 };
-    let copy = Action::Assign { target: 1, expr: 0 };
-    let main_start = Action::Start {
-        pairs: Span { first: 2, count: 0 },
-    };
-    let call = Action::Call {
-        callee: 0,
-        args: Span { first: 2, count: 1 },
-        targets: Span { first: 3, count: 1 },
-    };
-    let edges = vec![in alloc;
-        Edge {
-            source: 0,
-            target: 1,
-            action: start
-        },
-        Edge {
-            source: 1,
-            target: 2,
-            action: add
-        },
-        Edge {
-            source: 2,
-            target: 3,
-            action: copy
-        },
-        Edge {
-            source: 4,
-            target: 5,
-            action: main_start
-        },
-        Edge {
-            source: 5,
-            target: 6,
-            action: call
-        },
-    ]?;
-    Ok(edges)
-}
-
-/// `proc inc(n:int) returns (r:int) begin n = n + 1; r = n; end var a:int, b:int; begin b = inc(a); end`
-fn called(alloc: Global) -> Result<Core, AllocError> {
-    spl_core::law_examples();
-    let inc = Proc {
-        inputs: 1,
-        outputs: 1,
-        dims: 3,
-        entry: 0,
-        exit: 3,
-    };
-    let main = Proc {
-        inputs: 0,
-        outputs: 0,
-        dims: 2,
-        entry: 4,
-        exit: 6,
-    };
-    let procs = vec![in alloc; inc, main]?;
-    let owners = vec![in alloc; 0, 0, 0, 0, 1, 1, 1]?;
-    let dims = vec![in alloc; 2, 0, 0, 1]?;
-    let exprs = vec![in alloc;
-        CoreExpr::Variable(2),
-        CoreExpr::Number(1),
-        CoreExpr::Add(0, 1),
-    ]?;
-    let conds = vec![in alloc; spl_core::CoreCond::Compare(spl_core::Cmp::Lt, 0, 1)]?;
-    let edges = call_edges(alloc)?;
-    Ok(Core::from_parts(CoreParts {
-        procs,
-        owners,
-        edges,
-        dims,
-        exprs,
-        conds,
-    }))
-}
-
-/// `var x:int; begin x = x * x; end`
-fn squaring(alloc: Global) -> Result<Core, AllocError> {
-    spl_core::law_examples();
-    let procs = vec![in alloc;
-        Proc {
-            inputs: 0,
-            outputs: 0,
-            dims: 1,
-            entry: 0,
-            exit: 2
-        },
-    ]?;
-    let owners = vec![in alloc; 0, 0, 0]?;
-    let exprs = vec![in alloc; CoreExpr::Variable(0), CoreExpr::Mul(0, 0)]?;
-    let start = Action::Start {
-        pairs: Span { first: 0, count: 0 },
-    };
-    let square = Action::Assign { target: 0, expr: 1 };
-    let edges = vec![in alloc;
-        Edge {
-            source: 0,
-            target: 1,
-            action: start
-        },
-        Edge {
-            source: 1,
-            target: 2,
-            action: square
-        },
-    ]?;
-    let (dims, conds) = (Vec::new(alloc), Vec::new(alloc));
-    Ok(Core::from_parts(CoreParts {
-        procs,
-        owners,
-        edges,
-        dims,
-        exprs,
-        conds,
-    }))
+    let choices = read_choices(alloc, text.as_bytes())
+        .ok()
+        .ok_or("the text has choices")?;
+    if choices.steps.len() > 100 {
+        return Err("there are few steps".into());
+    }
+    Ok(choices)
 }
 
 /// The place of the first fault of a text; none if it has choices or memory is short.
@@ -140,7 +30,7 @@ fn fault_of(alloc: Global, text: &str) -> Option<usize> {
 }
 
 #[test]
-fn faults(rt: HostRuntime) {
+fn faults_of_texts(rt: HostRuntime) {
     let cases = [
         ("x", 0),
         ("5 \n", 2),
@@ -165,11 +55,9 @@ fn faults(rt: HostRuntime) {
     }
 }
 
-/// The numbers of a text, line by line, with a bar after each line.
+/// The numbers of a text, line by line, with a bar before each step.
 fn shown(alloc: Global, text: &str) -> Result<String, Fail> {
-    let choices = read_choices(alloc, text.as_bytes())
-        .ok()
-        .ok_or("the text has choices")?;
+    let choices = choices_in(alloc, text)?;
     let mut all = String::new(alloc);
     for x in &choices.start {
         let piece = format!(in alloc; "{x} ")?;
@@ -188,7 +76,7 @@ fn shown(alloc: Global, text: &str) -> Result<String, Fail> {
 }
 
 #[test]
-fn texts(rt: HostRuntime) -> Result<(), Fail> {
+fn choices_of_texts(rt: HostRuntime) -> Result<(), Fail> {
     let cases = [
         ("", ""),
         ("\n", ""),
@@ -215,12 +103,7 @@ fn texts(rt: HostRuntime) -> Result<(), Fail> {
 
 /// The top frames of the run, one on each line; or the step of the fault.
 fn followed(alloc: Global, core: &Core, text: &str) -> Result<String, Fail> {
-    let choices = read_choices(alloc, text.as_bytes())
-        .ok()
-        .ok_or("the text has choices")?;
-    if choices.steps.len() > 100 {
-        return Err("there are few steps".into());
-    }
+    let choices = choices_in(alloc, text)?;
     let run = match replay(alloc, core, &choices) {
         Ok(run) => run,
         Err(ReplayFault::NotARun(k)) => return Ok(format!(in alloc; "not a run {k}")?),
@@ -245,7 +128,7 @@ fn followed(alloc: Global, core: &Core, text: &str) -> Result<String, Fail> {
 #[test]
 fn replays(rt: HostRuntime) -> Result<(), Fail> {
     let alloc = rt.alloc();
-    let core = called(alloc)?;
+    let core = incrementing(alloc)?;
     let tops = "4 1 5 0\n5 1 5 0\n0 2 5 9 9\n1 2 5 9 5\n2 2 5 9 6\n3 2 5 6 6\n6 1 5 6\n";
     let cases = [
         ("5 0\n0\n0 9 9\n0\n0\n0\n0", tops),
@@ -269,5 +152,36 @@ fn replays(rt: HostRuntime) -> Result<(), Fail> {
     let all = followed(alloc, &square, "18446744073709551616\n0\n0")?;
     assert!(rt; all.as_str() == "wide 2");
     law_examples();
+    Ok(())
+}
+
+/// The text of the run of a core with the choices that a text spells.
+fn text_of(alloc: Global, core: &Core, text: &str) -> Result<Vec<u8>, Fail> {
+    let choices = choices_in(alloc, text)?;
+    let run = replay(alloc, core, &choices)
+        .ok()
+        .ok_or("the choices give a run")?;
+    Ok(run_text(alloc, &run)?)
+}
+
+#[test]
+fn texts_of_runs(rt: HostRuntime) -> Result<(), Fail> {
+    let alloc = rt.alloc();
+    let core = incrementing(alloc)?;
+    let cases = [
+        ("7 0", b"4 1 7 0\n".as_slice()),
+        (
+            "-5 0\n0\n0 9 12",
+            b"4 1 -5 0\n5 1 -5 0\n0 2 -5 9 12\n".as_slice(),
+        ),
+        (
+            "-5 0\n0\n0 9 12\n0\n0\n0\n0",
+            b"4 1 -5 0\n5 1 -5 0\n0 2 -5 9 12\n1 2 -5 9 -5\n2 2 -5 9 -4\n3 2 -5 -4 -4\n6 1 -5 -4\n".as_slice(),
+        ),
+    ];
+    for (choices, want) in cases {
+        let text = text_of(alloc, &core, choices)?;
+        assert_eq!(rt; text.as_slice(), want, "with {choices}");
+    }
     Ok(())
 }
