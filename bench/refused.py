@@ -6,9 +6,10 @@
 Counts the requests that PROGRAM makes on WORDS, and then runs it once for each with that one refused. Each such run has to
 end with status 5, `out of memory` on standard error and nothing on standard output, or with the answer of the run in which
 nothing was refused (a request of the C library's own can be one that nobody misses). With no WORDS it does so on the
-programs of examples/ and on `bench 2`. Prints the number of requests of each, for either domain where there is a file:
-analysing the same file in blocks and by full matrices asks for different numbers. Needs a C compiler (`cc`): requests are
-refused by a library of twenty lines that is loaded before the C library. Nothing here is part of the tests.
+programs of examples/ in either domain, on the replay there, and on `bench 2`. Then the program that `bench 3` makes is
+analysed from a file in blocks and by full matrices: the bytes have to be equal, and the numbers of requests different,
+which shows that `--domain` changes what is computed. Needs a C compiler (`cc`): requests are refused by a library of
+twenty lines that is loaded before the C library. Nothing here is part of the tests.
 """
 import concurrent.futures
 import os
@@ -48,10 +49,34 @@ def run(program, words, shim, refused, told=None):
     return done.returncode, done.stdout, done.stderr
 
 
-def try_words(program, words, shim, folder):
+def counted(program, words, shim, folder):
+    """The answer where nothing is refused, and how many requests it takes."""
     told = pathlib.Path(folder) / "requests"
-    wanted = run(program, words, shim, 0, told)
-    requests = int(told.read_text())
+    answer = run(program, words, shim, 0, told)
+    return answer, int(told.read_text())
+
+
+def generated(n):
+    """The text of the program that `bench n` makes."""
+    variables = ", ".join(f"{v}{k}:int" for k in range(n) for v in "abc")
+    chains = [f"b{k} = a{k} + 1;\nc{k} = b{k} + 1;" for k in range(n)]
+    steps = [f"{v}{k} = {v}{k} + 1;" for k in range(n) for v in "abc"]
+    return "\n".join([f"var {variables};", "begin", *chains, "while random do", *steps, "done;", "end", ""])
+
+
+def try_domains(program, shim, folder):
+    path = pathlib.Path(folder) / "generated.spl"
+    path.write_text(generated(3))
+    blocks, full = (counted(program, ["--domain", domain, str(path)], shim, folder) for domain in ("dec", "full"))
+    if blocks[0] != full[0]:
+        sys.exit("the two domains give different reports")
+    if blocks[1] == full[1]:
+        sys.exit(f"both domains make {full[1]} requests: is it one domain?")
+    print(f"the program of `bench 3` from a file: {blocks[1]} requests in blocks, {full[1]} by full matrices, equal bytes")
+
+
+def try_words(program, words, shim, folder):
+    wanted, requests = counted(program, words, shim, folder)
     missing = (5, b"", b"out of memory\n")
     counts = {"out of memory": 0, "its answer": 0}
     with concurrent.futures.ThreadPoolExecutor(os.cpu_count()) as pool:
@@ -68,6 +93,7 @@ def main():
     program = str(pathlib.Path(sys.argv[1]).resolve())
     calls = [sys.argv[2:]] if sys.argv[2:] else [
         *(["--domain", domain, str(path)] for path in sorted(EXAMPLES.glob("*.spl")) for domain in ("dec", "full")),
+        ["replay", str(EXAMPLES / "both.spl"), str(EXAMPLES / "both.choices")],
         ["bench", "2"],
     ]
     with tempfile.TemporaryDirectory() as folder:
@@ -76,6 +102,8 @@ def main():
         subprocess.run(["cc", "-O2", "-shared", "-fPIC", "-o", shim, source], check=True)
         for words in calls:
             try_words(program, words, shim, folder)
+        if not sys.argv[2:]:
+            try_domains(program, shim, folder)
 
 
 if __name__ == "__main__":
