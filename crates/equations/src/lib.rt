@@ -4,6 +4,7 @@
 mod finding;
 mod laws;
 mod reading;
+mod rows;
 mod source;
 mod table;
 
