@@ -1,15 +1,16 @@
-//! Straight programs through the calls of a domain: every word of the values at their ends, worked out apart.
+//! Straight programs through the calls of both domains: every word of the values at their ends, worked out apart.
+ghost use Rattle.std.specs.Prelude.{◌≡◌};
 
-ghost use Rattle.std.specs.Prelude.{◌≡◌, ◌-◌, ◌*◌, ◌<◌, ◌≤◌, length, IfOk, IsSome};
-ghost use Rattle.spl_core.specs.Parts.{proc_at};
-ghost use Rattle.spl_core.specs.Facts.{ActionFits};
-
-use crate::texts::{core_in, edge_of};
+use crate::calls::{closed, copied, entered, joined, narrowed, returned, widened};
+use crate::cores::{core_in, main_dims};
+use crate::straight::{at_end, at_main_end, end_of};
+use crate::views::view;
+use dec_domain::DecDomain;
 use domain::Domain;
 use full_oct::FullDomain;
-use oct_def::{NONE, NoMemory};
-use spl_core::{Action, Core, Proc};
-use std::alloc::{AllocError, Global};
+use oct_def::NoMemory;
+use std::alloc::Global;
+use std::process::Abort;
 use std::test::Fail;
 
 /// Two straight programs, and the words of the join, the widening and the narrowing of their ends.
@@ -207,162 +208,70 @@ const COPY: (&str, &str) = (
     "0 1 0; 0 2 0; 0 3 0; 1 0 6; 1 2 6; 1 3 0; 2 0 0; 2 1 0; 2 3 0; 3 0 6; 3 1 0; 3 2 6; ",
 );
 
-/// The words of row i that aren't 0 on the diagonal and `NONE` elsewhere, with their places.
-fn row_words<D: Domain>(
-    alloc: Global,
-    domain: &D,
-    v: &D::V,
-    dims: u32,
-    i: u32,
-) -> Result<String, AllocError>
-    requires dims { (D.meaning v.now).dims ≡ dims }
-    requires small { dims ≤ 256 }
-    requires row { i < 2 * dims }
-    requires not_bottom { IsSome (D.meaning v.now).matrix }
-{
-    let mut line = String::new(alloc);
-    for j in 0..2 * dims {
-        let word = domain.entry(v, i, j);
-        let plain = if i == j { 0 } else { NONE };
-        if word != plain {
-            line.push_str(format!(in alloc; "{i} {j} {word}; ")?.as_str())?;
-        }
-    }
+/// The view of the value at the end of a program.
+fn end_view<D: Domain>(alloc: Global, dom: &mut D, text: &str) -> Result<String, Fail> {
+    let (end, dims) = end_of(alloc, dom, text)?;
+    let line = view(alloc, dom, &end, dims)?;
     Ok(line)
 }
 
-/// The words of a value that aren't 0 on the diagonal and `NONE` elsewhere, with their places; or that it is Bottom.
-fn words<D: Domain>(alloc: Global, domain: &D, v: &D::V, dims: u32) -> Result<String, AllocError>
-    requires dims { (D.meaning v.now).dims ≡ dims }
-{
-    domain.known(v);
-    if domain.is_bottom(v) {
-        return format!(in alloc; "bottom");
-    }
-    let mut line = String::new(alloc);
-    for i in 0..2 * dims {
-        let row = row_words(alloc, domain, v, dims, i)?;
-        line.push_str(row.as_str())?;
-    }
-    Ok(line)
-}
-
-/// The value of a procedure after an edge's action. A start and a call leave it as it is.
-fn after<D: Domain>(
+/// Ends the test where the value at the end of a program has another view.
+fn expect_end<D: Domain>(
+    rt: &impl Abort,
     alloc: Global,
-    domain: &mut D,
-    core: &Core,
-    p: Proc,
-    action: Action,
-    v: &D::V,
-) -> Result<D::V, NoMemory>
-    requires fits { ActionFits core.now p action }
-    requires dims { (D.meaning v.now).dims ≡ p.dims }
-    ensures dims { IfOk result (λ r. (D.meaning r).dims ≡ p.dims) }
-{
-    match action {
-        Action::Assign { target, expr } => {
-            let w = domain.assign(alloc, v, core, target, expr)?;
-            Ok(w)
-        }
-        Action::Havoc { target } => {
-            let w = domain.havoc(alloc, v, target)?;
-            Ok(w)
-        }
-        Action::Test { cond, wanted } => {
-            let w = domain.test(alloc, v, core, cond, wanted)?;
-            Ok(w)
-        }
-        Action::Skip | Action::Call { .. } | Action::Start { .. } => {
-            let w = domain.share(v)?;
-            Ok(w)
-        }
-    }
-}
-
-/// The value at the end of a straight body, from the one at its start.
-fn at_end<D: Domain>(
-    alloc: Global,
-    domain: &mut D,
-    core: &Core,
-    p: u32,
-    start: D::V,
-) -> Result<D::V, NoMemory>
-    requires p { p < length core.now.procs }
-    requires dims { (D.meaning start).dims ≡ (proc_at core.now p).dims }
-    ensures dims { IfOk result (λ r. (D.meaning r).dims ≡ (proc_at core.now p).dims) }
-{
-    let proc = core.proc_at(p);
-    let mut v = start;
-    for k in 0..core.edge_count() {
-        let edge = edge_of(core, k);
-        if core.owner(edge.source) == p {
-            v = after(alloc, domain, core, proc, edge.action, &v)?;
-        }
-    }
-    Ok(v)
-}
-
-/// How many dimensions main has.
-fn main_dims(core: &Core) -> u32
-    ensures dims { result ≡ (proc_at core.now (length core.now.procs - 1)).dims }
-    ensures small { result ≤ 256 }
-{
-    core.proc_at(core.procs() - 1).dims
-}
-
-/// The value at the end of main's body, which is straight.
-fn at_main_end<D: Domain>(alloc: Global, domain: &mut D, core: &Core) -> Result<D::V, NoMemory>
-    ensures dims { IfOk result (λ r. (D.meaning r).dims ≡ (proc_at core.now (length core.now.procs - 1)).dims) }
-{
-    let main = core.procs() - 1;
-    let start = domain.top(alloc, main_dims(core))?;
-    let end = at_end(alloc, domain, core, main, start)?;
-    Ok(end)
-}
-
-/// The words of the value at the end of a text's main.
-fn end_words<D: Domain>(alloc: Global, domain: &mut D, text: &str) -> Result<String, Fail> {
-    let core = core_in(alloc, text.as_bytes())?;
-    let end = at_main_end(alloc, domain, &core)?;
-    let line = words(alloc, domain, &end, main_dims(&core))?;
-    Ok(line)
+    dom: &mut D,
+    text: &str,
+    want: &str,
+) -> Result<(), Fail> {
+    let given = end_view(alloc, dom, text)?;
+    assert_eq!(rt; given.as_str(), want, "after {text}");
+    Ok(())
 }
 
 #[test]
 fn straight_programs_have_values(rt: HostRuntime) -> Result<(), Fail> {
-    let mut domain = FullDomain::new();
     for (text, want) in ENDS {
-        let given = end_words(rt.alloc(), &mut domain, text)?;
-        assert_eq!(&rt; given.as_str(), want, "after {text}");
+        expect_end(&rt, rt.alloc(), &mut FullDomain::new(), text, want)?;
+        expect_end(&rt, rt.alloc(), &mut DecDomain::new(), text, want)?;
     }
     Ok(())
 }
 
-/// The words of the closing of the value at the end of a text's main.
-fn closed_words<D: Domain>(alloc: Global, domain: &mut D, text: &str) -> Result<String, Fail> {
-    let core = core_in(alloc, text.as_bytes())?;
-    let end = at_main_end(alloc, domain, &core)?;
-    let closed = domain.close(alloc, &end)?;
-    let line = words(alloc, domain, &closed, main_dims(&core))?;
+/// The view of the closing of the value at the end of a program.
+fn closed_view<D: Domain>(alloc: Global, dom: &mut D, text: &str) -> Result<String, Fail> {
+    let (end, dims) = end_of(alloc, dom, text)?;
+    let closing = closed(alloc, dom, &end)?;
+    let line = view(alloc, dom, &closing, dims)?;
     Ok(line)
+}
+
+/// Ends the test where the closing of the value at the end of a program has another view.
+fn expect_closing<D: Domain>(
+    rt: &impl Abort,
+    alloc: Global,
+    dom: &mut D,
+    text: &str,
+    want: &str,
+) -> Result<(), Fail> {
+    let given = closed_view(alloc, dom, text)?;
+    assert_eq!(rt; given.as_str(), want, "the closing after {text}");
+    Ok(())
 }
 
 #[test]
 fn a_closing_lowers_an_entry(rt: HostRuntime) -> Result<(), Fail> {
-    let mut domain = FullDomain::new();
     let (text, before, after) = CLOSING;
-    let given = end_words(rt.alloc(), &mut domain, text)?;
-    assert_eq!(&rt; given.as_str(), before);
-    let given = closed_words(rt.alloc(), &mut domain, text)?;
-    assert_eq!(&rt; given.as_str(), after);
+    expect_end(&rt, rt.alloc(), &mut FullDomain::new(), text, before)?;
+    expect_end(&rt, rt.alloc(), &mut DecDomain::new(), text, before)?;
+    expect_closing(&rt, rt.alloc(), &mut FullDomain::new(), text, after)?;
+    expect_closing(&rt, rt.alloc(), &mut DecDomain::new(), text, after)?;
     Ok(())
 }
 
-/// The words of the join, the widening and the narrowing of two values.
+/// The views of the join, the widening and the narrowing of two values.
 fn made_of<D: Domain>(
     alloc: Global,
-    domain: &mut D,
+    dom: &mut D,
     dims: u32,
     a: &D::V,
     b: &D::V,
@@ -370,134 +279,94 @@ fn made_of<D: Domain>(
     requires first { (D.meaning a.now).dims ≡ dims }
     requires second { (D.meaning b.now).dims ≡ dims }
 {
-    let join = domain.join(alloc, a, b)?;
-    let join = words(alloc, domain, &join, dims)?;
-    let widening = domain.widen(alloc, a, b)?;
-    let widening = words(alloc, domain, &widening, dims)?;
-    let narrowing = domain.narrow(alloc, a, b)?;
-    let narrowing = words(alloc, domain, &narrowing, dims)?;
-    Ok([join, widening, narrowing])
+    let join = joined(alloc, dom, a, b)?;
+    let widening = widened(alloc, dom, a, b)?;
+    let narrowing = narrowed(alloc, dom, a, b)?;
+    Ok([
+        view(alloc, dom, &join, dims)?,
+        view(alloc, dom, &widening, dims)?,
+        view(alloc, dom, &narrowing, dims)?,
+    ])
 }
 
-/// What is made of the ends of two texts' mains.
-fn made_of_ends<D: Domain>(
-    alloc: Global,
-    domain: &mut D,
-    pair: &Pair,
-) -> Result<[String; 3], Fail> {
-    let first = core_in(alloc, pair.first.as_bytes())?;
-    let second = core_in(alloc, pair.second.as_bytes())?;
-    let dims = main_dims(&first);
-    if main_dims(&second) != dims {
+/// What is made of the values at the ends of two programs.
+fn made_of_ends<D: Domain>(alloc: Global, dom: &mut D, pair: &Pair) -> Result<[String; 3], Fail> {
+    let (first, dims) = end_of(alloc, dom, pair.first)?;
+    let (second, others) = end_of(alloc, dom, pair.second)?;
+    if others != dims {
         return Err("the programs have as many variables".into());
     }
-    let a = at_main_end(alloc, domain, &first)?;
-    let b = at_main_end(alloc, domain, &second)?;
-    let made = made_of(alloc, domain, dims, &a, &b)?;
+    let made = made_of(alloc, dom, dims, &first, &second)?;
     Ok(made)
+}
+
+/// Ends the test where something else is made of the values at the ends of two programs.
+fn expect_pair<D: Domain>(
+    rt: &impl Abort,
+    alloc: Global,
+    dom: &mut D,
+    pair: &Pair,
+) -> Result<(), Fail> {
+    let [join, widening, narrowing] = made_of_ends(alloc, dom, pair)?;
+    assert_eq!(rt; join.as_str(), pair.join, "the join");
+    assert_eq!(rt; widening.as_str(), pair.widening, "the widening");
+    assert_eq!(rt; narrowing.as_str(), pair.narrowing, "the narrowing");
+    Ok(())
 }
 
 #[test]
 fn pairs_have_joins_widenings_and_narrowings(rt: HostRuntime) -> Result<(), Fail> {
-    let mut domain = FullDomain::new();
     for pair in &PAIRS {
-        let [join, widening, narrowing] = made_of_ends(rt.alloc(), &mut domain, pair)?;
-        assert_eq!(&rt; join.as_str(), pair.join, "the join");
-        assert_eq!(&rt; widening.as_str(), pair.widening, "the widening");
-        assert_eq!(&rt; narrowing.as_str(), pair.narrowing, "the narrowing");
+        expect_pair(&rt, rt.alloc(), &mut FullDomain::new(), pair)?;
+        expect_pair(&rt, rt.alloc(), &mut DecDomain::new(), pair)?;
     }
     Ok(())
 }
 
-/// The value after a variable became a copy of another one.
-fn copied<D: Domain>(
-    alloc: Global,
-    domain: &mut D,
-    v: &D::V,
-    target: u32,
-    origin: u32,
-) -> Result<D::V, NoMemory>
-    requires target { target < (D.meaning v.now).dims }
-    requires origin { origin < (D.meaning v.now).dims }
-    ensures dims { IfOk result (λ r. (D.meaning r).dims ≡ (D.meaning v.now).dims) }
-{
-    let w = domain.copy(alloc, v, target, origin)?;
-    Ok(w)
-}
-
-/// Whether a value is the same as its closure and as a share of it, and isn't Bottom.
-fn is_settled<D: Domain>(
-    alloc: Global,
-    domain: &mut D,
-    dims: u32,
-    v: &D::V,
-) -> Result<bool, NoMemory>
+/// Whether a value is the same as its closing and as a share of it, and isn't Bottom.
+fn is_settled<D: Domain>(alloc: Global, dom: &mut D, v: &D::V, dims: u32) -> Result<bool, NoMemory>
     requires dims { (D.meaning v.now).dims ≡ dims }
 {
-    domain.known(v);
-    let closed = domain.close(alloc, v)?;
-    let shared = domain.share(v)?;
-    let bottom = domain.bottom(dims);
-    let is_closed = domain.same(&closed, v);
-    let is_shared = domain.same(&shared, v);
-    let is_bottom = domain.same(&bottom, v);
+    dom.known(v);
+    let closing = closed(alloc, dom, v)?;
+    let shared = dom.share(v)?;
+    let bottom = dom.bottom(dims);
+    let is_closed = dom.same(&closing, v);
+    let is_shared = dom.same(&shared, v);
+    let is_bottom = dom.same(&bottom, v);
     Ok(is_closed && is_shared && !is_bottom)
 }
 
-/// The words after the copy, and whether that value is settled.
-fn copy_words<D: Domain>(
-    alloc: Global,
-    domain: &mut D,
-    text: &str,
-) -> Result<(String, bool), Fail> {
-    let core = core_in(alloc, text.as_bytes())?;
-    let dims = main_dims(&core);
+/// The view after the copy, and whether that value is settled.
+fn copy_view<D: Domain>(alloc: Global, dom: &mut D, text: &str) -> Result<(String, bool), Fail> {
+    let (end, dims) = end_of(alloc, dom, text)?;
     if dims != 2 {
         return Err("the program has two variables".into());
     }
-    let v = at_main_end(alloc, domain, &core)?;
-    let w = copied(alloc, domain, &v, 1, 0)?;
-    let settled = is_settled(alloc, domain, dims, &w)?;
-    let line = words(alloc, domain, &w, dims)?;
+    let copy = copied(alloc, dom, &end, 1, 0)?;
+    let settled = is_settled(alloc, dom, &copy, dims)?;
+    let line = view(alloc, dom, &copy, dims)?;
     Ok((line, settled))
+}
+
+/// Ends the test where the copy has another view or isn't settled.
+fn expect_copy<D: Domain>(rt: &impl Abort, alloc: Global, dom: &mut D) -> Result<(), Fail> {
+    let (text, want) = COPY;
+    let (given, settled) = copy_view(alloc, dom, text)?;
+    assert_eq!(rt; given.as_str(), want);
+    assert!(rt; settled);
+    Ok(())
 }
 
 #[test]
 fn copies_relate_variables(rt: HostRuntime) -> Result<(), Fail> {
-    let mut domain = FullDomain::new();
-    let (text, want) = COPY;
-    let (given, settled) = copy_words(rt.alloc(), &mut domain, text)?;
-    assert_eq!(&rt; given.as_str(), want);
-    assert!(&rt; settled);
+    expect_copy(&rt, rt.alloc(), &mut FullDomain::new())?;
+    expect_copy(&rt, rt.alloc(), &mut DecDomain::new())?;
     Ok(())
 }
 
-/// The value at the entry of a callee with four variables, whose two inputs are the caller's first variable.
-fn entered<D: Domain>(alloc: Global, domain: &mut D, v: &D::V) -> Result<D::V, NoMemory>
-    requires dims { (D.meaning v.now).dims ≡ 2 }
-    ensures dims { IfOk result (λ r. (D.meaning r).dims ≡ 4) }
-{
-    let w = domain.enter(alloc, v, &[0, 0], 4)?;
-    Ok(w)
-}
-
-/// The value after that call, whose two outputs go to the caller's two variables.
-fn returned<D: Domain>(
-    alloc: Global,
-    domain: &mut D,
-    v: &D::V,
-    exit: &D::V,
-) -> Result<D::V, NoMemory>
-    requires dims { (D.meaning v.now).dims ≡ 2 }
-    requires exit { (D.meaning exit.now).dims ≡ 4 }
-    ensures dims { IfOk result (λ r. (D.meaning r).dims ≡ 2) }
-{
-    let w = domain.back(alloc, v, exit, &[0, 0], 2, &[0, 1])?;
-    Ok(w)
-}
-
-/// The words at the callee's entry, at its exit, and after the call.
-fn call_words<D: Domain>(alloc: Global, domain: &mut D, text: &str) -> Result<[String; 3], Fail> {
+/// The views at the callee's entry, at its exit, and after the call.
+fn call_views<D: Domain>(alloc: Global, dom: &mut D, text: &str) -> Result<[String; 3], Fail> {
     let core = core_in(alloc, text.as_bytes())?;
     if core.procs() != 2 {
         return Err("there is one procedure besides main".into());
@@ -508,22 +377,28 @@ fn call_words<D: Domain>(alloc: Global, domain: &mut D, text: &str) -> Result<[S
     if main_dims(&core) != 2 {
         return Err("main has two variables".into());
     }
-    let v = at_main_end(alloc, domain, &core)?;
-    let entry = entered(alloc, domain, &v)?;
-    let at_entry = words(alloc, domain, &entry, 4)?;
-    let exit = at_end(alloc, domain, &core, 0, entry)?;
-    let at_exit = words(alloc, domain, &exit, 4)?;
-    let behind = returned(alloc, domain, &v, &exit)?;
-    let after = words(alloc, domain, &behind, 2)?;
+    let v = at_main_end(alloc, dom, &core)?;
+    let entry = entered(alloc, dom, &v, (0, 0), 4)?;
+    let at_entry = view(alloc, dom, &entry, 4)?;
+    let exit = at_end(alloc, dom, &core, 0, entry)?;
+    let at_exit = view(alloc, dom, &exit, 4)?;
+    let behind = returned(alloc, dom, &v, &exit, (0, 0), 0)?;
+    let after = view(alloc, dom, &behind, 2)?;
     Ok([at_entry, at_exit, after])
+}
+
+/// Ends the test where a value of the call has another view.
+fn expect_call<D: Domain>(rt: &impl Abort, alloc: Global, dom: &mut D) -> Result<(), Fail> {
+    let [entry, exit, after] = call_views(alloc, dom, CALL)?;
+    assert_eq!(rt; entry.as_str(), CALLED[0]);
+    assert_eq!(rt; exit.as_str(), CALLED[1]);
+    assert_eq!(rt; after.as_str(), CALLED[2]);
+    Ok(())
 }
 
 #[test]
 fn a_call_and_its_return(rt: HostRuntime) -> Result<(), Fail> {
-    let mut domain = FullDomain::new();
-    let [entry, exit, after] = call_words(rt.alloc(), &mut domain, CALL)?;
-    assert_eq!(&rt; entry.as_str(), CALLED[0]);
-    assert_eq!(&rt; exit.as_str(), CALLED[1]);
-    assert_eq!(&rt; after.as_str(), CALLED[2]);
+    expect_call(&rt, rt.alloc(), &mut FullDomain::new())?;
+    expect_call(&rt, rt.alloc(), &mut DecDomain::new())?;
     Ok(())
 }
