@@ -115,6 +115,23 @@ pub(crate) fn end_of<D: Domain>(alloc: Global, dom: &mut D, text: &str) -> Resul
     Ok((end, main_dims(&core)))
 }
 
+/// The value at the end of a straight program over so many variables.
+pub(crate) fn end_over<D: Domain>(
+    alloc: Global,
+    dom: &mut D,
+    text: &str,
+    dims: u32,
+) -> Result<D::V, Fail>
+    ensures dims { IfOk result (λ r. (D.meaning r).dims ≡ dims) }
+{
+    let core = core_in(alloc, text.as_bytes())?;
+    if main_dims(&core) != dims {
+        return Err("the program has other variables".into());
+    }
+    let end = at_main_end(alloc, dom, &core)?;
+    Ok(end)
+}
+
 /// The rows that each edge of main's body relaxes.
 fn line_rows(alloc: Global, core: &Core) -> Result<String, Fail> {
     let mut dom = DecDomain::new();

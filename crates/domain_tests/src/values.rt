@@ -3,8 +3,8 @@ ghost use Rattle.std.specs.Prelude.{◌≡◌};
 
 use crate::calls::{closed, copied, entered, joined, narrowed, returned, widened};
 use crate::cores::{core_in, main_dims};
-use crate::straight::{at_end, at_main_end, end_of};
-use crate::views::view;
+use crate::straight::{at_end, at_main_end, end_of, end_over};
+use crate::views::expect_view;
 use dec_domain::DecDomain;
 use domain::Domain;
 use full_oct::FullDomain;
@@ -208,13 +208,6 @@ const COPY: (&str, &str) = (
     "0 1 0; 0 2 0; 0 3 0; 1 0 6; 1 2 6; 1 3 0; 2 0 0; 2 1 0; 2 3 0; 3 0 6; 3 1 0; 3 2 6; ",
 );
 
-/// The view of the value at the end of a program.
-fn end_view<D: Domain>(alloc: Global, dom: &mut D, text: &str) -> Result<String, Fail> {
-    let (end, dims) = end_of(alloc, dom, text)?;
-    let line = view(alloc, dom, &end, dims)?;
-    Ok(line)
-}
-
 /// Ends the test where the value at the end of a program has another view.
 fn expect_end<D: Domain>(
     rt: &impl Abort,
@@ -223,95 +216,65 @@ fn expect_end<D: Domain>(
     text: &str,
     want: &str,
 ) -> Result<(), Fail> {
-    let given = end_view(alloc, dom, text)?;
-    assert_eq!(rt; given.as_str(), want, "after {text}");
-    Ok(())
+    let (end, dims) = end_of(alloc, dom, text)?;
+    expect_view(rt, alloc, dom, &end, dims, want, text)
 }
 
 #[test]
 fn straight_programs_have_values(rt: HostRuntime) -> Result<(), Fail> {
-    for (text, want) in ENDS {
+    for (text, want) in &ENDS {
         expect_end(&rt, rt.alloc(), &mut FullDomain::new(), text, want)?;
         expect_end(&rt, rt.alloc(), &mut DecDomain::new(), text, want)?;
     }
     Ok(())
 }
 
-/// The view of the closing of the value at the end of a program.
-fn closed_view<D: Domain>(alloc: Global, dom: &mut D, text: &str) -> Result<String, Fail> {
+/// Ends the test where the value at the end of the program or its closing has another view.
+fn expect_closing<D: Domain>(rt: &impl Abort, alloc: Global, dom: &mut D) -> Result<(), Fail> {
+    let (text, before, after) = CLOSING;
     let (end, dims) = end_of(alloc, dom, text)?;
+    expect_view(rt, alloc, dom, &end, dims, before, "before the closing")?;
     let closing = closed(alloc, dom, &end)?;
-    let line = view(alloc, dom, &closing, dims)?;
-    Ok(line)
-}
-
-/// Ends the test where the closing of the value at the end of a program has another view.
-fn expect_closing<D: Domain>(
-    rt: &impl Abort,
-    alloc: Global,
-    dom: &mut D,
-    text: &str,
-    want: &str,
-) -> Result<(), Fail> {
-    let given = closed_view(alloc, dom, text)?;
-    assert_eq!(rt; given.as_str(), want, "the closing after {text}");
-    Ok(())
+    expect_view(rt, alloc, dom, &closing, dims, after, "after the closing")
 }
 
 #[test]
 fn a_closing_lowers_an_entry(rt: HostRuntime) -> Result<(), Fail> {
-    let (text, before, after) = CLOSING;
-    expect_end(&rt, rt.alloc(), &mut FullDomain::new(), text, before)?;
-    expect_end(&rt, rt.alloc(), &mut DecDomain::new(), text, before)?;
-    expect_closing(&rt, rt.alloc(), &mut FullDomain::new(), text, after)?;
-    expect_closing(&rt, rt.alloc(), &mut DecDomain::new(), text, after)?;
-    Ok(())
+    expect_closing(&rt, rt.alloc(), &mut FullDomain::new())?;
+    expect_closing(&rt, rt.alloc(), &mut DecDomain::new())
 }
 
-/// The views of the join, the widening and the narrowing of two values.
-fn made_of<D: Domain>(
-    alloc: Global,
-    dom: &mut D,
-    dims: u32,
-    a: &D::V,
-    b: &D::V,
-) -> Result<[String; 3], NoMemory>
-    requires first { (D.meaning a.now).dims ≡ dims }
-    requires second { (D.meaning b.now).dims ≡ dims }
-{
-    let join = joined(alloc, dom, a, b)?;
-    let widening = widened(alloc, dom, a, b)?;
-    let narrowing = narrowed(alloc, dom, a, b)?;
-    Ok([
-        view(alloc, dom, &join, dims)?,
-        view(alloc, dom, &widening, dims)?,
-        view(alloc, dom, &narrowing, dims)?,
-    ])
-}
-
-/// What is made of the values at the ends of two programs.
-fn made_of_ends<D: Domain>(alloc: Global, dom: &mut D, pair: &Pair) -> Result<[String; 3], Fail> {
-    let (first, dims) = end_of(alloc, dom, pair.first)?;
-    let (second, others) = end_of(alloc, dom, pair.second)?;
-    if others != dims {
-        return Err("the programs have as many variables".into());
-    }
-    let made = made_of(alloc, dom, dims, &first, &second)?;
-    Ok(made)
-}
-
-/// Ends the test where something else is made of the values at the ends of two programs.
+/// Ends the test where the join, the widening or the narrowing of the values at the ends of two programs has another view.
 fn expect_pair<D: Domain>(
     rt: &impl Abort,
     alloc: Global,
     dom: &mut D,
     pair: &Pair,
 ) -> Result<(), Fail> {
-    let [join, widening, narrowing] = made_of_ends(alloc, dom, pair)?;
-    assert_eq!(rt; join.as_str(), pair.join, "the join");
-    assert_eq!(rt; widening.as_str(), pair.widening, "the widening");
-    assert_eq!(rt; narrowing.as_str(), pair.narrowing, "the narrowing");
-    Ok(())
+    let (first, dims) = end_of(alloc, dom, pair.first)?;
+    let second = end_over(alloc, dom, pair.second, dims)?;
+    let join = joined(alloc, dom, &first, &second)?;
+    expect_view(rt, alloc, dom, &join, dims, pair.join, "the join")?;
+    let widening = widened(alloc, dom, &first, &second)?;
+    expect_view(
+        rt,
+        alloc,
+        dom,
+        &widening,
+        dims,
+        pair.widening,
+        "the widening",
+    )?;
+    let narrowing = narrowed(alloc, dom, &first, &second)?;
+    expect_view(
+        rt,
+        alloc,
+        dom,
+        &narrowing,
+        dims,
+        pair.narrowing,
+        "the narrowing",
+    )
 }
 
 #[test]
@@ -337,68 +300,44 @@ fn is_settled<D: Domain>(alloc: Global, dom: &mut D, v: &D::V, dims: u32) -> Res
     Ok(is_closed && is_shared && !is_bottom)
 }
 
-/// The view after the copy, and whether that value is settled.
-fn copy_view<D: Domain>(alloc: Global, dom: &mut D, text: &str) -> Result<(String, bool), Fail> {
-    let (end, dims) = end_of(alloc, dom, text)?;
-    if dims != 2 {
-        return Err("the program has two variables".into());
-    }
-    let copy = copied(alloc, dom, &end, 1, 0)?;
-    let settled = is_settled(alloc, dom, &copy, dims)?;
-    let line = view(alloc, dom, &copy, dims)?;
-    Ok((line, settled))
-}
-
-/// Ends the test where the copy has another view or isn't settled.
+/// Ends the test where the copy isn't settled or has another view.
 fn expect_copy<D: Domain>(rt: &impl Abort, alloc: Global, dom: &mut D) -> Result<(), Fail> {
     let (text, want) = COPY;
-    let (given, settled) = copy_view(alloc, dom, text)?;
-    assert_eq!(rt; given.as_str(), want);
+    let end = end_over(alloc, dom, text, 2)?;
+    let copy = copied(alloc, dom, &end, 1, 0)?;
+    let settled = is_settled(alloc, dom, &copy, 2)?;
     assert!(rt; settled);
-    Ok(())
+    expect_view(rt, alloc, dom, &copy, 2, want, "the copy")
 }
 
 #[test]
 fn copies_relate_variables(rt: HostRuntime) -> Result<(), Fail> {
     expect_copy(&rt, rt.alloc(), &mut FullDomain::new())?;
-    expect_copy(&rt, rt.alloc(), &mut DecDomain::new())?;
-    Ok(())
+    expect_copy(&rt, rt.alloc(), &mut DecDomain::new())
 }
 
-/// The views at the callee's entry, at its exit, and after the call.
-fn call_views<D: Domain>(alloc: Global, dom: &mut D, text: &str) -> Result<[String; 3], Fail> {
-    let core = core_in(alloc, text.as_bytes())?;
-    if core.procs() != 2 {
-        return Err("there is one procedure besides main".into());
-    }
-    if core.proc_at(0).dims != 4 {
-        return Err("the procedure has four variables".into());
-    }
-    if main_dims(&core) != 2 {
+/// Ends the test where the value at the callee's entry, at its exit or after the call has another view.
+fn expect_call<D: Domain>(rt: &impl Abort, alloc: Global, dom: &mut D) -> Result<(), Fail> {
+    let core = core_in(alloc, CALL.as_bytes())?;
+    let dims = main_dims(&core);
+    if dims < 2 {
         return Err("main has two variables".into());
     }
-    let v = at_main_end(alloc, dom, &core)?;
-    let entry = entered(alloc, dom, &v, (0, 0), 4)?;
-    let at_entry = view(alloc, dom, &entry, 4)?;
+    let inner = core.proc_at(0).dims;
+    if inner < 4 {
+        return Err("the procedure has four variables".into());
+    }
+    let caller = at_main_end(alloc, dom, &core)?;
+    let entry = entered(alloc, dom, &caller, (0, 0), inner)?;
+    expect_view(rt, alloc, dom, &entry, inner, CALLED[0], "the entry")?;
     let exit = at_end(alloc, dom, &core, 0, entry)?;
-    let at_exit = view(alloc, dom, &exit, 4)?;
-    let behind = returned(alloc, dom, &v, &exit, (0, 0), 0)?;
-    let after = view(alloc, dom, &behind, 2)?;
-    Ok([at_entry, at_exit, after])
-}
-
-/// Ends the test where a value of the call has another view.
-fn expect_call<D: Domain>(rt: &impl Abort, alloc: Global, dom: &mut D) -> Result<(), Fail> {
-    let [entry, exit, after] = call_views(alloc, dom, CALL)?;
-    assert_eq!(rt; entry.as_str(), CALLED[0]);
-    assert_eq!(rt; exit.as_str(), CALLED[1]);
-    assert_eq!(rt; after.as_str(), CALLED[2]);
-    Ok(())
+    expect_view(rt, alloc, dom, &exit, inner, CALLED[1], "the exit")?;
+    let after = returned(alloc, dom, &caller, &exit, (0, 0), 0)?;
+    expect_view(rt, alloc, dom, &after, dims, CALLED[2], "after the call")
 }
 
 #[test]
 fn a_call_and_its_return(rt: HostRuntime) -> Result<(), Fail> {
     expect_call(&rt, rt.alloc(), &mut FullDomain::new())?;
-    expect_call(&rt, rt.alloc(), &mut DecDomain::new())?;
-    Ok(())
+    expect_call(&rt, rt.alloc(), &mut DecDomain::new())
 }

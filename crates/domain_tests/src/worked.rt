@@ -2,8 +2,8 @@
 ghost use Rattle.std.specs.Prelude.{◌≡◌, ◌<◌, IfOk};
 
 use crate::calls::{closed, narrowed};
-use crate::straight::end_of;
-use crate::views::view;
+use crate::straight::end_over;
+use crate::views::expect_view;
 use dec_domain::DecDomain;
 use dec_oct::DecOct;
 use dec_transfer::{copy, havoc};
@@ -28,52 +28,31 @@ const CLOSING: (&str, &str) = (
     "0 1 0; 0 2 1; 0 3 -1; 0 4 1; 0 5 0; 0 6 2; 0 7 -1; 1 0 2; 1 2 3; 1 3 -1; 1 4 2; 1 5 1; 1 6 3; 1 7 0; 2 0 -1; 2 1 -1; 2 3 -2; 2 4 0; 2 5 -1; 2 6 1; 2 7 -2; 3 0 3; 3 1 1; 3 2 4; 3 4 3; 3 5 2; 3 6 4; 3 7 1; 4 0 1; 4 1 0; 4 2 2; 4 3 -1; 4 5 0; 4 6 1; 4 7 -1; 5 0 2; 5 1 1; 5 2 3; 5 3 0; 5 4 2; 5 6 3; 5 7 -1; 6 0 0; 6 1 -1; 6 2 1; 6 3 -2; 6 4 -1; 6 5 -1; 6 7 -2; 7 0 3; 7 1 2; 7 2 4; 7 3 1; 7 4 3; 7 5 1; 7 6 4; ",
 );
 
-/// The value at the end of a straight program with four variables.
-fn end_over_four<D: Domain>(alloc: Global, dom: &mut D, text: &str) -> Result<D::V, Fail>
-    ensures dims { IfOk result (λ r. (D.meaning r).dims ≡ 4) }
-{
-    let (end, dims) = end_of(alloc, dom, text)?;
-    if dims != 4 {
-        return Err("the program has four variables".into());
-    }
-    Ok(end)
-}
-
 /// The pairs with the bounds, by narrowing, which closes nothing.
 fn paired<D: Domain>(alloc: Global, dom: &mut D) -> Result<D::V, Fail>
     ensures dims { IfOk result (λ r. (D.meaning r).dims ≡ 4) }
 {
-    let pairs = end_over_four(alloc, dom, PAIRS.0)?;
-    let first = end_over_four(alloc, dom, PAIRS.1)?;
-    let second = end_over_four(alloc, dom, PAIRS.2)?;
+    let pairs = end_over(alloc, dom, PAIRS.0, 4)?;
+    let first = end_over(alloc, dom, PAIRS.1, 4)?;
+    let second = end_over(alloc, dom, PAIRS.2, 4)?;
     let bounded = narrowed(alloc, dom, &pairs, &first)?;
     let both = narrowed(alloc, dom, &bounded, &second)?;
     Ok(both)
 }
 
-/// The views of the pairs with the bounds, and of their closing.
-fn closing_views<D: Domain>(alloc: Global, dom: &mut D) -> Result<(String, String), Fail> {
-    let pairs = paired(alloc, dom)?;
-    let closing = closed(alloc, dom, &pairs)?;
-    let before = view(alloc, dom, &pairs, 4)?;
-    let after = view(alloc, dom, &closing, 4)?;
-    Ok((before, after))
-}
-
-/// Ends the test where the pairs with the bounds, or their closing, have another view.
+/// Ends the test where the pairs with the bounds or their closing have another view.
 fn expect_closing<D: Domain>(rt: &impl Abort, alloc: Global, dom: &mut D) -> Result<(), Fail> {
-    let (want, closing) = CLOSING;
-    let (before, after) = closing_views(alloc, dom)?;
-    assert_eq!(rt; before.as_str(), want);
-    assert_eq!(rt; after.as_str(), closing);
-    Ok(())
+    let (before, after) = CLOSING;
+    let pairs = paired(alloc, dom)?;
+    expect_view(rt, alloc, dom, &pairs, 4, before, "before the closing")?;
+    let closing = closed(alloc, dom, &pairs)?;
+    expect_view(rt, alloc, dom, &closing, 4, after, "after the closing")
 }
 
 #[test]
 fn closing_relates_bounded_variables(rt: HostRuntime) -> Result<(), Fail> {
     expect_closing(&rt, rt.alloc(), &mut FullDomain::new())?;
-    expect_closing(&rt, rt.alloc(), &mut DecDomain::new())?;
-    Ok(())
+    expect_closing(&rt, rt.alloc(), &mut DecDomain::new())
 }
 
 /// The value of three equal variables, in blocks.
