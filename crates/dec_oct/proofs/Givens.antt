@@ -37,14 +37,6 @@ pub in_range-part : (vs : List ℕ) (m : Matrix) → ((i j : ℕ) → InRange (a
 unfolding restrict restrict_entry
 in_range-part vs m h = each-table InRange tt (2 * length vs) (restrict_entry vs m) (λ i j p q. h (outer vs i) (outer vs j))
 
-pub shape-part : (n : ℕ) (vs : List ℕ) (m : Matrix) → IsBlock n vs → IsShape n m → IsShape (length vs) (restrict vs m)
-shape-part n vs m bl s = record {
-  rows = length-restrict vs m;
-  square = square-part vs m;
-  coherent = coherent-part n vs m bl s.rows s.coherent;
-  in_range = in_range-part vs m s.in_range;
-}
-
 pub diagonal-part : (P : Bound → Type 0) (n : ℕ) (vs : List ℕ) (m : Matrix) → IsBlock n vs → length m ≡ 2 * n → ((i : ℕ) → i < length m → P (at m i i)) → (i : ℕ) → i < length (restrict vs m) → P (at (restrict vs m) i i)
 diagonal-part P n vs m bl e h i p =
     let l = length-restrict vs m in

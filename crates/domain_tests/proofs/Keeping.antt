@@ -2,7 +2,7 @@
 use Rattle.std.proofs.Common.{◌≡◌, ℕ, ◌+◌, Bool, List, [], ◌∷◌, ◌++◌, length, length-append, sym, ap, ◌∙◌, subst, arith}
 use Rattle.std.specs.List.{All}
 use Rattle.std.proofs.lemmas.List.Elements.{All-push}
-use Rattle.oct_def.specs.Octagon.{Octagon, top_value, tight_value, join_value, widen_value, narrow_value}
+use Rattle.oct_def.specs.Octagon.{Octagon, top_value, bottom_value, tight_value, join_value, widen_value, narrow_value}
 use Rattle.spl_core.specs.Expression.{Expression}
 use Rattle.spl_core.specs.Condition.{Condition}
 use Rattle.transfer_def.specs.Assign.{assign_value}
@@ -15,6 +15,10 @@ use Rattle.transfer_def.proofs.Tests.{dims-test_value}
 pub after_top : (n : ℕ) (r : Octagon) → r ≡ top_value n → r.dims ≡ n
 unfolding top_value
 after_top n r same = ap (λ (v : Octagon). v.dims) same
+
+pub after_bottom : (n : ℕ) (r : Octagon) → r ≡ bottom_value n → r.dims ≡ n
+unfolding bottom_value
+after_bottom n r same = ap (λ (v : Octagon). v.dims) same
 
 pub after_tight : (v r : Octagon) → r ≡ tight_value v → r.dims ≡ v.dims
 unfolding tight_value

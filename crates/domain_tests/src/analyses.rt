@@ -114,7 +114,7 @@ fn seeded_programs_have_one_solution(rt: HostRuntime) -> Result<(), Fail> {
 #[test]
 fn worked_programs_have_one_solution(rt: HostRuntime) -> Result<(), Fail> {
     let alloc = rt.alloc();
-    for text in TEXTS {
+    for text in &TEXTS {
         let core = core_in(alloc, text.as_bytes())?;
         let values = analyse_both(&rt, alloc, &core, 1, text)?;
         assert!(&rt; values > 3, "{text}");

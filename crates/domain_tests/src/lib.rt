@@ -1,19 +1,28 @@
-//! Tests of the two domains against each other: programs from texts and from a seed, analysed in both, and values from a seed,
-//! made by each call of a domain, have the same views; and tests of the blocks and of the rows of the decomposed one.
+//! Tests of the two domains: worked values in both; against each other, programs from texts and from a seed, analysed in both,
+//! and values from a seed, made by each call of a domain, which have the same views; the blocks and the rows of the decomposed
+//! one; and how often an analysis computes a point.
 #![tactic(auto)]
 
 #[cfg(test)]
 mod analyses;
 #[cfg(test)]
+mod calls;
+#[cfg(test)]
 mod cores;
+#[cfg(test)]
+mod counting;
 #[cfg(test)]
 mod programs;
 #[cfg(test)]
 mod random;
 #[cfg(test)]
+mod rounds;
+#[cfg(test)]
 mod rows;
 #[cfg(test)]
 mod straight;
+#[cfg(test)]
+mod values;
 #[cfg(test)]
 mod views;
 #[cfg(test)]

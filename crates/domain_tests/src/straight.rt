@@ -70,20 +70,66 @@ pub(crate) fn after<D: Domain>(
     }
 }
 
-/// The value at the end of main's body, which is straight.
-pub(crate) fn at_end<D: Domain>(alloc: Global, dom: &mut D, core: &Core) -> Result<D::V, NoMemory>
-    ensures dims { IfOk result (λ r. (D.meaning r).dims ≡ (proc_at core.now (length core.now.procs - 1)).dims) }
+/// The value at the end of a straight body, from the one at its start.
+pub(crate) fn at_end<D: Domain>(
+    alloc: Global,
+    dom: &mut D,
+    core: &Core,
+    p: u32,
+    start: D::V,
+) -> Result<D::V, NoMemory>
+    requires p { p < length core.now.procs }
+    requires dims { (D.meaning start).dims ≡ (proc_at core.now p).dims }
+    ensures dims { IfOk result (λ r. (D.meaning r).dims ≡ (proc_at core.now p).dims) }
 {
-    let main = core.procs() - 1;
-    let proc = core.proc_at(main);
-    let mut v = dom.top(alloc, main_dims(core))?;
+    let proc = core.proc_at(p);
+    let mut v = start;
     for k in 0..core.edge_count() {
         let edge = edge_of(core, k);
-        if core.owner(edge.source) == main {
+        if core.owner(edge.source) == p {
             v = after(alloc, dom, core, proc, edge.action, &v)?;
         }
     }
     Ok(v)
+}
+
+/// The value at the end of main's body, which is straight.
+pub(crate) fn at_main_end<D: Domain>(
+    alloc: Global,
+    dom: &mut D,
+    core: &Core,
+) -> Result<D::V, NoMemory>
+    ensures dims { IfOk result (λ r. (D.meaning r).dims ≡ (proc_at core.now (length core.now.procs - 1)).dims) }
+{
+    let start = dom.top(alloc, main_dims(core))?;
+    let end = at_end(alloc, dom, core, core.procs() - 1, start)?;
+    Ok(end)
+}
+
+/// The value at the end of a straight program, and how many variables it is over.
+pub(crate) fn end_of<D: Domain>(alloc: Global, dom: &mut D, text: &str) -> Result<(D::V, u32), Fail>
+    ensures dims { IfOk result (λ r. (D.meaning r.0).dims ≡ r.1) }
+{
+    let core = core_in(alloc, text.as_bytes())?;
+    let end = at_main_end(alloc, dom, &core)?;
+    Ok((end, main_dims(&core)))
+}
+
+/// The value at the end of a straight program over so many variables.
+pub(crate) fn end_over<D: Domain>(
+    alloc: Global,
+    dom: &mut D,
+    text: &str,
+    dims: u32,
+) -> Result<D::V, Fail>
+    ensures dims { IfOk result (λ r. (D.meaning r).dims ≡ dims) }
+{
+    let core = core_in(alloc, text.as_bytes())?;
+    if main_dims(&core) != dims {
+        return Err("the program has other variables".into());
+    }
+    let end = at_main_end(alloc, dom, &core)?;
+    Ok(end)
 }
 
 /// The rows that each edge of main's body relaxes.

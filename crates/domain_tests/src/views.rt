@@ -5,6 +5,7 @@ use domain::Domain;
 use oct_def::NONE;
 use std::alloc::{AllocError, Global};
 use std::process::Abort;
+use std::test::Fail;
 
 /// The entries of row i that aren't 0 on the diagonal and `NONE` elsewhere, with their places.
 fn row_view<D: Domain>(
@@ -49,6 +50,23 @@ pub(crate) fn view<D: Domain>(
         text.push_str(row.as_str())?;
     }
     Ok(text)
+}
+
+/// Ends the test where a value has another view.
+pub(crate) fn expect_view<D: Domain>(
+    rt: &impl Abort,
+    alloc: Global,
+    dom: &D,
+    v: &D::V,
+    dims: u32,
+    want: &str,
+    name: &str,
+) -> Result<(), Fail>
+    requires dims { (D.meaning v.now).dims ≡ dims }
+{
+    let given = view(alloc, dom, v, dims)?;
+    assert_eq!(rt; given.as_str(), want, "{name}");
+    Ok(())
 }
 
 /// Asserts that there are as many views on both sides, each the same. The result is how many aren't Bottom.

@@ -2,6 +2,7 @@
 ghost use Rattle.std.specs.Prelude.{◌≡◌, ◌-◌, ◌<◌, length, IfOk};
 ghost use Rattle.spl_core.specs.Parts.{proc_at};
 
+use crate::calls::{closed, copied, entered, joined, narrowed, returned, widened};
 use crate::cores::{core_in, edge_of};
 use crate::programs::Writer;
 use crate::random::Random;
@@ -46,22 +47,10 @@ fn combined<D: Domain>(
     ensures dims { IfOk result (λ r. (D.meaning r).dims ≡ 6) }
 {
     match call {
-        0 => {
-            let close = dom.close(alloc, a)?;
-            Ok(close)
-        }
-        1 => {
-            let join = dom.join(alloc, a, b)?;
-            Ok(join)
-        }
-        2 => {
-            let widening = dom.widen(alloc, a, b)?;
-            Ok(widening)
-        }
-        _ => {
-            let narrowing = dom.narrow(alloc, a, b)?;
-            Ok(narrowing)
-        }
+        0 => closed(alloc, dom, a),
+        1 => joined(alloc, dom, a, b),
+        2 => widened(alloc, dom, a, b),
+        _ => narrowed(alloc, dom, a, b),
     }
 }
 
@@ -79,8 +68,7 @@ fn changed<D: Domain>(
     let target = random.below(6);
     if call == 4 {
         let origin = random.below(6);
-        let copy = dom.copy(alloc, v, target, origin)?;
-        Ok(copy)
+        copied(alloc, dom, v, target, origin)
     } else {
         let havoc = dom.havoc(alloc, v, target)?;
         Ok(havoc)
@@ -113,39 +101,14 @@ fn moved<D: Domain>(
     Ok(w)
 }
 
-/// The value at the entry of a callee with six variables, whose two inputs are random variables of the caller.
-fn entered<D: Domain>(
-    alloc: Global,
-    dom: &mut D,
-    random: &mut Random,
-    v: &D::V,
-) -> Result<D::V, NoMemory>
-    requires dims { (D.meaning v.now).dims ≡ 6 }
-    ensures dims { IfOk result (λ r. (D.meaning r).dims ≡ 6) }
+/// The arguments of a call: two random variables, which may be the same.
+fn arguments(random: &mut Random) -> (u32, u32)
+    ensures first { result.0 < 6 }
+    ensures second { result.1 < 6 }
 {
     let first = random.below(6);
     let second = random.below(6);
-    let entry = dom.enter(alloc, v, &[first, second], 6)?;
-    Ok(entry)
-}
-
-/// The value after a call of a callee with two inputs and two outputs: both arguments are random variables of the caller, which
-/// may be the same, and the outputs go to two of its variables.
-fn returned<D: Domain>(
-    alloc: Global,
-    dom: &mut D,
-    random: &mut Random,
-    caller: &D::V,
-    exit: &D::V,
-) -> Result<D::V, NoMemory>
-    requires caller { (D.meaning caller.now).dims ≡ 6 }
-    requires exit { (D.meaning exit.now).dims ≡ 6 }
-    ensures dims { IfOk result (λ r. (D.meaning r).dims ≡ 6) }
-{
-    let args = [random.below(6), random.below(6)];
-    let target = random.below(5);
-    let behind = dom.back(alloc, caller, exit, &args, 2, &[target, target + 1])?;
-    Ok(behind)
+    (first, second)
 }
 
 /// The value without bounds after four random assumptions.
@@ -182,8 +145,8 @@ fn made<D: Domain>(
         4 | 5 => changed(alloc, dom, random, call, a),
         6 => moved(alloc, dom, random, &programs.assignments, a),
         7 => moved(alloc, dom, random, &programs.assumptions, a),
-        8 => entered(alloc, dom, random, a),
-        9 => returned(alloc, dom, random, a, b),
+        8 => entered(alloc, dom, a, arguments(random), 6),
+        9 => returned(alloc, dom, a, b, arguments(random), random.below(5)),
         _ => {
             let next = moved(alloc, dom, random, &programs.assignments, b)?;
             combined(alloc, dom, call, a, &next)

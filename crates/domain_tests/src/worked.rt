@@ -1,9 +1,9 @@
-//! Worked values in both domains: every entry, and the blocks that a random assignment leaves.
+//! A worked closing in both domains, every entry of it, and the blocks that a random assignment leaves.
 ghost use Rattle.std.specs.Prelude.{◌≡◌, ◌<◌, IfOk};
 
-use crate::cores::{core_in, main_dims};
-use crate::straight::at_end;
-use crate::views::view;
+use crate::calls::{closed, narrowed};
+use crate::straight::end_over;
+use crate::views::expect_view;
 use dec_domain::DecDomain;
 use dec_oct::DecOct;
 use dec_transfer::{copy, havoc};
@@ -12,14 +12,8 @@ use full_oct::FullDomain;
 use minplus_lanes::RowCount;
 use oct_def::NoMemory;
 use std::alloc::Global;
+use std::process::Abort;
 use std::test::Fail;
-
-/// Two branches, and their join: `0 <= x <= 1` and `x - y = 0`.
-const BRANCHES: (&str, &str, &str) = (
-    "var x:int, y:int; begin x = 0; y = 0; end",
-    "var x:int, y:int; begin x = 1; y = 1; end",
-    "0 1 0; 0 2 0; 0 3 0; 1 0 2; 1 2 2; 1 3 0; 2 0 0; 2 1 0; 2 3 0; 3 0 2; 3 1 0; 3 2 2; ",
-);
 
 /// Two pairs of related variables, and the bounds of one variable of each.
 const PAIRS: (&str, &str, &str) = (
@@ -34,119 +28,31 @@ const CLOSING: (&str, &str) = (
     "0 1 0; 0 2 1; 0 3 -1; 0 4 1; 0 5 0; 0 6 2; 0 7 -1; 1 0 2; 1 2 3; 1 3 -1; 1 4 2; 1 5 1; 1 6 3; 1 7 0; 2 0 -1; 2 1 -1; 2 3 -2; 2 4 0; 2 5 -1; 2 6 1; 2 7 -2; 3 0 3; 3 1 1; 3 2 4; 3 4 3; 3 5 2; 3 6 4; 3 7 1; 4 0 1; 4 1 0; 4 2 2; 4 3 -1; 4 5 0; 4 6 1; 4 7 -1; 5 0 2; 5 1 1; 5 2 3; 5 3 0; 5 4 2; 5 6 3; 5 7 -1; 6 0 0; 6 1 -1; 6 2 1; 6 3 -2; 6 4 -1; 6 5 -1; 6 7 -2; 7 0 3; 7 1 2; 7 2 4; 7 3 1; 7 4 3; 7 5 1; 7 6 4; ",
 );
 
-/// Three equal variables, of which the first becomes any integer: the others stay equal.
-const SPLITTING: (&str, &str) = (
-    "var x:int, y:int, z:int; begin y = x; z = x; x = random; end",
-    "2 4 0; 3 5 0; 4 2 0; 5 3 0; ",
-);
-
-/// The value at the end of a straight program with so many variables.
-fn end_of<D: Domain>(alloc: Global, dom: &mut D, text: &str, dims: u32) -> Result<D::V, Fail>
-    ensures dims { IfOk result (λ r. (D.meaning r).dims ≡ dims) }
-{
-    let core = core_in(alloc, text.as_bytes())?;
-    if main_dims(&core) != dims {
-        return Err("the program has other variables".into());
-    }
-    let end = at_end(alloc, dom, &core)?;
-    Ok(end)
-}
-
-/// The join of the branches.
-fn joined<D: Domain>(alloc: Global, dom: &mut D) -> Result<D::V, Fail>
-    ensures dims { IfOk result (λ r. (D.meaning r).dims ≡ 2) }
-{
-    let first = end_of(alloc, dom, BRANCHES.0, 2)?;
-    let second = end_of(alloc, dom, BRANCHES.1, 2)?;
-    let join = dom.join(alloc, &first, &second)?;
-    Ok(join)
-}
-
 /// The pairs with the bounds, by narrowing, which closes nothing.
 fn paired<D: Domain>(alloc: Global, dom: &mut D) -> Result<D::V, Fail>
     ensures dims { IfOk result (λ r. (D.meaning r).dims ≡ 4) }
 {
-    let pairs = end_of(alloc, dom, PAIRS.0, 4)?;
-    let first = end_of(alloc, dom, PAIRS.1, 4)?;
-    let second = end_of(alloc, dom, PAIRS.2, 4)?;
+    let pairs = end_over(alloc, dom, PAIRS.0, 4)?;
+    let first = end_over(alloc, dom, PAIRS.1, 4)?;
+    let second = end_over(alloc, dom, PAIRS.2, 4)?;
     let bounded = narrowed(alloc, dom, &pairs, &first)?;
     let both = narrowed(alloc, dom, &bounded, &second)?;
     Ok(both)
 }
 
-/// The narrowing of two values over four variables.
-fn narrowed<D: Domain>(alloc: Global, dom: &mut D, a: &D::V, b: &D::V) -> Result<D::V, Fail>
-    requires a { (D.meaning a.now).dims ≡ 4 }
-    requires b { (D.meaning b.now).dims ≡ 4 }
-    ensures dims { IfOk result (λ r. (D.meaning r).dims ≡ 4) }
-{
-    let narrowing = dom.narrow(alloc, a, b)?;
-    Ok(narrowing)
-}
-
-/// The closing of a value over four variables.
-fn closed<D: Domain>(alloc: Global, dom: &mut D, v: &D::V) -> Result<D::V, Fail>
-    requires dims { (D.meaning v.now).dims ≡ 4 }
-    ensures dims { IfOk result (λ r. (D.meaning r).dims ≡ 4) }
-{
-    let close = dom.close(alloc, v)?;
-    Ok(close)
-}
-
-/// The view of the join of the branches.
-fn join_view<D: Domain>(alloc: Global, dom: &mut D) -> Result<String, Fail> {
-    let join = joined(alloc, dom)?;
-    let line = view(alloc, dom, &join, 2)?;
-    Ok(line)
-}
-
-/// The views of the pairs with the bounds, and of their closing.
-fn closing_views<D: Domain>(alloc: Global, dom: &mut D) -> Result<(String, String), Fail> {
+/// Ends the test where the pairs with the bounds or their closing have another view.
+fn expect_closing<D: Domain>(rt: &impl Abort, alloc: Global, dom: &mut D) -> Result<(), Fail> {
+    let (before, after) = CLOSING;
     let pairs = paired(alloc, dom)?;
+    expect_view(rt, alloc, dom, &pairs, 4, before, "before the closing")?;
     let closing = closed(alloc, dom, &pairs)?;
-    let before = view(alloc, dom, &pairs, 4)?;
-    let after = view(alloc, dom, &closing, 4)?;
-    Ok((before, after))
-}
-
-/// The view of what the random assignment leaves.
-fn splitting_view<D: Domain>(alloc: Global, dom: &mut D) -> Result<String, Fail> {
-    let (text, _) = SPLITTING;
-    let end = end_of(alloc, dom, text, 3)?;
-    let line = view(alloc, dom, &end, 3)?;
-    Ok(line)
-}
-
-#[test]
-fn a_join_keeps_what_both_branches_say(rt: HostRuntime) -> Result<(), Fail> {
-    let (_, _, want) = BRANCHES;
-    let plain = join_view(rt.alloc(), &mut FullDomain::new())?;
-    let blocks = join_view(rt.alloc(), &mut DecDomain::new())?;
-    assert_eq!(&rt; plain.as_str(), want);
-    assert_eq!(&rt; blocks.as_str(), want);
-    Ok(())
+    expect_view(rt, alloc, dom, &closing, 4, after, "after the closing")
 }
 
 #[test]
 fn closing_relates_bounded_variables(rt: HostRuntime) -> Result<(), Fail> {
-    let (want, closed) = CLOSING;
-    let (before, after) = closing_views(rt.alloc(), &mut FullDomain::new())?;
-    assert_eq!(&rt; before.as_str(), want);
-    assert_eq!(&rt; after.as_str(), closed);
-    let (before, after) = closing_views(rt.alloc(), &mut DecDomain::new())?;
-    assert_eq!(&rt; before.as_str(), want);
-    assert_eq!(&rt; after.as_str(), closed);
-    Ok(())
-}
-
-#[test]
-fn a_random_assignment_leaves_the_others_equal(rt: HostRuntime) -> Result<(), Fail> {
-    let (_, want) = SPLITTING;
-    let plain = splitting_view(rt.alloc(), &mut FullDomain::new())?;
-    let blocks = splitting_view(rt.alloc(), &mut DecDomain::new())?;
-    assert_eq!(&rt; plain.as_str(), want);
-    assert_eq!(&rt; blocks.as_str(), want);
-    Ok(())
+    expect_closing(&rt, rt.alloc(), &mut FullDomain::new())?;
+    expect_closing(&rt, rt.alloc(), &mut DecDomain::new())
 }
 
 /// The value of three equal variables, in blocks.

@@ -14,5 +14,3 @@ mod prints;
 mod runs;
 #[cfg(test)]
 mod texts;
-#[cfg(test)]
-mod values;

@@ -1,9 +1,6 @@
 use Rattle.std.proofs.Common.{◌∙◌}
-use Rattle.domain_tests.proofs.Keeping.{after_assign, after_havoc}
+use Rattle.domain_tests.proofs.Keeping.{after_havoc}
 use Rattle.domain_tests.proofs.walks.changed.Goals as goal
-
-pub returns-in_ok-copy : goal.returns-in_ok-copy
-returns-in_ok-copy g c = record { dims = after_assign _ _ _ _ c.in_ok-copy.ensures.value ∙ c.requires.dims }
 
 pub returns-in_ok-havoc : goal.returns-in_ok-havoc
 returns-in_ok-havoc g c = record { dims = after_havoc _ _ _ c.in_ok-havoc.ensures.value ∙ c.requires.dims }

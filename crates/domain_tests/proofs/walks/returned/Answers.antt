@@ -1,6 +1,0 @@
-use Rattle.std.proofs.Common.{◌∙◌}
-use Rattle.domain_tests.proofs.Keeping.{after_back}
-use Rattle.domain_tests.proofs.walks.returned.Goals as goal
-
-pub returns : goal.returns
-returns g c = record { dims = after_back _ _ _ _ _ _ c.in_ok-behind.ensures.value ∙ c.requires.caller }

@@ -1,6 +1,0 @@
-use Rattle.std.proofs.Common.{◌∙◌}
-use Rattle.domain_tests.proofs.Keeping.{after_narrow}
-use Rattle.domain_tests.proofs.worked.narrowed.Goals as goal
-
-pub returns : goal.returns
-returns g c = record { dims = after_narrow _ _ _ c.in_ok-narrowing.ensures.value ∙ c.requires.a }

@@ -1,5 +1,0 @@
-use Rattle.text_tests.proofs.Keeping.{after_assign}
-use Rattle.text_tests.proofs.values.copied.Goals as goal
-
-pub returns : goal.returns
-returns g c = record { dims = after_assign _ _ _ _ c.in_ok-w.ensures.value }

@@ -1,6 +1,0 @@
-use Rattle.std.proofs.Common.{◌∙◌}
-use Rattle.text_tests.proofs.Keeping.{after_back}
-use Rattle.text_tests.proofs.values.returned.Goals as goal
-
-pub returns : goal.returns
-returns g c = record { dims = after_back _ _ _ _ _ _ c.in_ok-w.ensures.value ∙ c.requires.dims }
