@@ -8,7 +8,7 @@ use std::test::Fail;
 
 /// The number of a generated program, the same as a word, and the figures of its analysis. The rows grow with the groups:
 /// one block of all 120 variables would take 28,800 of them at each closing.
-const BENCHES: [(u32, &str, &str); 3] = [
+const BENCHES: &[(u32, &str, &str)] = &[
     (
         1,
         "1",
@@ -29,7 +29,7 @@ const BENCHES: [(u32, &str, &str); 3] = [
 #[test]
 fn benches(rt: HostRuntime) -> Result<(), Fail> {
     for (_, word, figures) in BENCHES {
-        let mut o = Outside::new(rt.alloc(), &["bench", word], b"")?;
+        let mut o = Outside::new(rt.alloc(), &["bench", *word], b"")?;
         o.expect(&rt, rt.alloc(), word, 0, figures, "");
     }
     Ok(())
@@ -39,6 +39,7 @@ fn benches(rt: HostRuntime) -> Result<(), Fail> {
 fn a_bench_counts_what_it_relaxes_itself(rt: HostRuntime) -> Result<(), Fail> {
     let mut dom = DecDomain::new();
     for (number, word, figures) in BENCHES {
+        let number = *number;
         assert!(rt; 1 <= number && number <= 42);
         let text = bench_text(rt.alloc(), number, &mut dom)?;
         assert_eq!(rt; text.as_slice(), figures.as_bytes(), "{word}");

@@ -38,13 +38,10 @@ fn calls_that_are_never_made(rt: HostRuntime) -> Result<(), Fail> {
 
 /// Runs the program once: it writes so many bytes of the report before a write fails.
 fn expect_front(rt: &impl Abort, alloc: Global, o: &mut Outside, bytes: usize, line: &str) {
-    assert_eq!(rt; o.run(alloc), 4, "after {bytes} bytes");
-    assert_eq!(rt; o.err.bytes(), line.as_bytes(), "after {bytes} bytes");
-    assert_eq!(rt; o.out.bytes().len(), bytes, "after {bytes} bytes");
-    assert!(rt;
-        COUNTED.as_bytes().starts_with(o.out.bytes()),
-        "after {bytes} bytes"
-    );
+    assert_eq!(rt; o.run(alloc), 4);
+    assert_eq!(rt; o.out.bytes().len(), bytes);
+    assert!(rt; COUNTED.as_bytes().starts_with(o.out.bytes()));
+    assert_eq!(rt; o.err.bytes(), line.as_bytes());
 }
 
 #[test]

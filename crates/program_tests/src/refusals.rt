@@ -4,7 +4,7 @@ use crate::outside::Outside;
 use std::test::Fail;
 
 /// Programs that break a rule, each with the line that tells of it.
-const REFUSED: [(&str, &str); 29] = [
+const REFUSED: &[(&str, &str)] = &[
     ("begin @ end", "refused: BadByte at L1 C7\n"),
     ("begin /* x", "refused: OpenComment at L1 C7\n"),
     (

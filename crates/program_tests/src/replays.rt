@@ -6,7 +6,7 @@ use std::test::Fail;
 
 /// A program, the word for the choices, the choices as the file `c`, the status, the lines of the run, and the line on
 /// the second stream.
-const REPLAYS: [(&str, &str, &str, u8, &str, &str); 9] = [
+const REPLAYS: &[(&str, &str, &str, u8, &str, &str)] = &[
     (
         COUNTING,
         "c",
@@ -49,9 +49,9 @@ const REPLAYS: [(&str, &str, &str, u8, &str, &str); 9] = [
 #[test]
 fn replays(rt: HostRuntime) -> Result<(), Fail> {
     for (text, word, choices, status, lines, line) in REPLAYS {
-        let mut o = Outside::new(rt.alloc(), &["replay", "f", word], text.as_bytes())?;
+        let mut o = Outside::new(rt.alloc(), &["replay", "f", *word], text.as_bytes())?;
         o.files.put(b"c", choices.as_bytes())?;
-        o.expect(&rt, rt.alloc(), line, status, lines, line);
+        o.expect(&rt, rt.alloc(), line, *status, lines, line);
     }
     Ok(())
 }

@@ -12,7 +12,7 @@ pub(crate) const COUNTED: &str =
     "var i:int;\nbegin\n  /* (L2 C6) top */\n  i = 0;\n  /* (L3 C7) [|i>=0; -i+10>=0|] */\n  while i < 10 do\n    /* (L4 C16) [|i>=0; -i+9>=0|] */\n    i = i + 1;\n    /* (L5 C11) [|i-1>=0; -i+10>=0|] */\n  done;\n  /* (L6 C6) [|i-10=0|] */\nend\n/* rounds: 3 */\n";
 
 /// Programs without a `fail`, and their reports.
-const REPORTS: [(&str, &str); 8] = [
+const REPORTS: &[(&str, &str)] = &[
     (
         "begin end\n",
         "begin\n  /* (L1 C6) top */\nend\n/* rounds: 2 */\n",
@@ -57,7 +57,7 @@ fn reports(rt: HostRuntime) -> Result<(), Fail> {
 }
 
 /// Programs with a loop, with fails, and with a procedure, each with its status and its report.
-const WORKED: [(&str, u8, &str); 3] = [
+const WORKED: &[(&str, u8, &str)] = &[
     (COUNTING, 0, COUNTED),
     (
         "var x:int;\nbegin\nif x > 0 then\nassume false;\nfail;\nendif;\nfail;\nend\n",
@@ -72,14 +72,14 @@ const WORKED: [(&str, u8, &str); 3] = [
 ];
 
 /// The words of an analysis in each domain, and in the one that is taken where none is asked for.
-const DOMAINS: [&[&str]; 3] = [&["f"], &["--domain", "dec", "f"], &["f", "--domain=full"]];
+const DOMAINS: &[&[&str]] = &[&["f"], &["--domain", "dec", "f"], &["f", "--domain=full"]];
 
 #[test]
 fn worked_reports_in_each_domain(rt: HostRuntime) -> Result<(), Fail> {
     for (text, status, report) in WORKED {
         for words in DOMAINS {
             let mut o = Outside::new(rt.alloc(), words, text.as_bytes())?;
-            o.expect(&rt, rt.alloc(), text, status, report, "");
+            o.expect(&rt, rt.alloc(), text, *status, report, "");
         }
     }
     Ok(())

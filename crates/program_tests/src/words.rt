@@ -9,7 +9,7 @@ const USAGE: &str =
     "usage: interproc [--delay N] [--descend N] [--full] [--domain dec|full] FILE\n";
 
 /// Words of no form.
-const NO_FORM: [&[&str]; 9] = [
+const NO_FORM: &[&[&str]] = &[
     &["-x"],
     &["f", "f"],
     &[],
@@ -38,17 +38,20 @@ fn a_word_that_is_no_text(rt: HostRuntime) -> Result<(), Fail> {
     Ok(())
 }
 
+/// Words that name no file.
+const MISSING: &[&str] = &["-", "", "g"];
+
 #[test]
 fn missing_files(rt: HostRuntime) -> Result<(), Fail> {
-    for word in ["-", "", "g"] {
-        let mut o = Outside::new(rt.alloc(), &[word], b"begin end")?;
+    for word in MISSING {
+        let mut o = Outside::new(rt.alloc(), &[*word], b"begin end")?;
         o.expect(&rt, rt.alloc(), word, 4, "", "fault: CannotOpen\n");
     }
     Ok(())
 }
 
 /// Words, a program, and its report.
-const OPTIONS: [(&[&str], &str, &str); 3] = [
+const OPTIONS: &[(&[&str], &str, &str)] = &[
     (
         &["f", "--descend", "0"],
         COUNTING,
