@@ -36,6 +36,13 @@ fn calls_that_are_never_made(rt: HostRuntime) -> Result<(), Fail> {
     Ok(())
 }
 
+/// The program with a loop, and a write that fails.
+fn with_failing_write(alloc: Global, write: usize) -> Result<Outside, Fail> {
+    let mut o = Outside::new(alloc, &["f"], COUNTING.as_bytes())?;
+    o.out.fail_at(write as u64)?;
+    Ok(o)
+}
+
 /// Runs the program once: it writes so many bytes of the report before a write fails.
 fn expect_front(rt: &impl Abort, alloc: Global, o: &mut Outside, bytes: usize, line: &str) {
     assert_eq!(rt; o.run(alloc), 4);
@@ -47,8 +54,7 @@ fn expect_front(rt: &impl Abort, alloc: Global, o: &mut Outside, bytes: usize, l
 #[test]
 fn each_write(rt: HostRuntime) -> Result<(), Fail> {
     for write in 0..WRITES {
-        let mut o = Outside::new(rt.alloc(), &["f"], COUNTING.as_bytes())?;
-        o.out.fail_at(write as u64)?;
+        let mut o = with_failing_write(rt.alloc(), write)?;
         expect_front(&rt, rt.alloc(), &mut o, 7 * write, "fault: WriteFault\n");
     }
     Ok(())
@@ -58,8 +64,7 @@ fn each_write(rt: HostRuntime) -> Result<(), Fail> {
 #[test]
 fn each_write_and_the_line(rt: HostRuntime) -> Result<(), Fail> {
     for write in 0..WRITES {
-        let mut o = Outside::new(rt.alloc(), &["f"], COUNTING.as_bytes())?;
-        o.out.fail_at(write as u64)?;
+        let mut o = with_failing_write(rt.alloc(), write)?;
         o.err.fail_at(0)?;
         expect_front(&rt, rt.alloc(), &mut o, 7 * write, "");
         o.renew(rt.alloc())?;
