@@ -8,8 +8,6 @@ mod command;
 mod reading;
 mod replay;
 mod stages;
-#[cfg(test)]
-mod tests;
 mod top;
 
 pub use bench::bench_text;

@@ -1,5 +1,5 @@
 use Rattle.std.proofs.Common.{◌≤◌}
-use Rattle.limit_tests.proofs.limits.occurrences.Given as goal
+use Rattle.program_tests.proofs.limits.occurrences.Given as goal
 
 -- each place counts once at most
 abbrev pub invariant-loop-at : goal.invariant-loop-at

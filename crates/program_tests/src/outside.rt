@@ -3,6 +3,7 @@
 use interproc_top::run;
 use spl_io::{MemFiles, MemSink, Words};
 use std::alloc::Global;
+use std::process::Abort;
 use std::test::Fail;
 
 /// Words, a file `f` that is read in pieces of 16 bytes, and two sinks that take 7 bytes a write.
@@ -15,7 +16,7 @@ pub(crate) struct Outside {
 }
 
 /// A sink with ample room.
-pub(crate) fn sink(alloc: Global) -> Result<MemSink, Fail> {
+fn sink(alloc: Global) -> Result<MemSink, Fail> {
     let made = MemSink::new(alloc, 7, 1 << 18)?;
     Ok(made)
 }
@@ -37,6 +38,13 @@ impl Outside {
         })
     }
 
+    /// Two empty sinks in place of those that were written to.
+    pub(crate) fn renew(&mut self, alloc: Global) -> Result<(), Fail> {
+        self.out = sink(alloc)?;
+        self.err = sink(alloc)?;
+        Ok(())
+    }
+
     /// Runs the program once. The result is its status.
     pub(crate) fn run(&mut self, alloc: Global) -> u8 {
         run(
@@ -47,5 +55,21 @@ impl Outside {
             &mut self.err,
         )
         .number()
+    }
+
+    /// Runs the program once, and compares its status and the texts on its two streams.
+    pub(crate) fn expect(
+        &mut self,
+        rt: &impl Abort,
+        alloc: Global,
+        case: &str,
+        status: u8,
+        out: &str,
+        err: &str,
+    ) {
+        let answered = self.run(alloc);
+        assert_eq!(rt; self.err.bytes(), err.as_bytes(), "{case}");
+        assert_eq!(rt; self.out.bytes(), out.as_bytes(), "{case}");
+        assert_eq!(rt; answered, status, "{case}");
     }
 }
