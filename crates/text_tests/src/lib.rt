@@ -7,7 +7,11 @@ mod checks;
 #[cfg(test)]
 mod cores;
 #[cfg(test)]
+mod edits;
+#[cfg(test)]
 mod graphs;
+#[cfg(test)]
+mod parses;
 #[cfg(test)]
 mod prints;
 #[cfg(test)]
