@@ -19,4 +19,6 @@ mod runs;
 #[cfg(test)]
 mod texts;
 #[cfg(test)]
+mod token_texts;
+#[cfg(test)]
 mod values;
