@@ -10,8 +10,6 @@ ghost use Rattle.spl_parser.specs.Derives.{Derives};
 
 mod blocks;
 mod bodies;
-#[cfg(test)]
-mod edit_tests;
 mod exprs;
 mod growing;
 mod heads;
@@ -22,8 +20,6 @@ mod operators;
 mod parsing;
 mod state;
 mod steps;
-#[cfg(test)]
-mod tests;
 mod words;
 
 pub use parsing::{ParseFault, parse};

@@ -5,4 +5,3 @@ pub mod Programs
 pub mod Waiting
 pub mod Worked
 pub mod Written
-mod Bare

@@ -15,6 +15,3 @@ pub use laws::law_examples;
 pub use notes::Notes;
 pub use printing::{print, print_tree};
 pub use spl_types::NoMemory;
-
-#[cfg(test)]
-mod tests;

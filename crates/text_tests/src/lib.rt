@@ -7,10 +7,16 @@ mod checks;
 #[cfg(test)]
 mod cores;
 #[cfg(test)]
+mod edits;
+#[cfg(test)]
 mod graphs;
+#[cfg(test)]
+mod parses;
 #[cfg(test)]
 mod prints;
 #[cfg(test)]
 mod runs;
 #[cfg(test)]
 mod texts;
+#[cfg(test)]
+mod token_texts;

@@ -1,9 +1,17 @@
 //! Programs whose canonical texts were worked out by hand.
 
-use spl_parser::{ParseFault, parse};
-use spl_print::{NoMemory, Notes, print_tree};
-use spl_text::{TextFault, tokens};
-use std::alloc::{AllocError, Global};
+ghost use Rattle.std.specs.Prelude.{◌≡◌, IfOk};
+ghost use Rattle.spl_tree.specs.Facts.{IsPlace, StmtIsPlaced};
+ghost use Rattle.spl_tree.specs.Meaning.{program_of};
+ghost use Rattle.spl_print.specs.Canonical.{point_lines, program_lines};
+
+use crate::texts::tree_in;
+use spl_parser::parse;
+use spl_print::{NoMemory, Notes, print, print_tree};
+use spl_text::tokens;
+use spl_tree::{Block, DeclList, MainTree, Stmt, StmtAt, StmtId, Tree, TreeParts};
+use spl_types::check;
+use std::alloc::Global;
 use std::process::Abort;
 use std::test::Fail;
 
@@ -103,7 +111,10 @@ const EXPRESSIONS: [(&str, &str); 56] = [
     ("(a and b)or not c<d", "a and b or not c < d"),
 ];
 
-/// The letters for points, and two closing texts.
+/// The closing lines.
+const CLOSING: &str = "/* fail (L1 C7): unreachable */\n/* rounds: 2 */\n";
+
+/// The letters for points, and the texts of the closing lines.
 fn lettered(alloc: Global) -> Result<Notes, NoMemory> {
     let mut notes = Notes::new(alloc);
     for letter in LETTERS {
@@ -114,38 +125,19 @@ fn lettered(alloc: Global) -> Result<Notes, NoMemory> {
     Ok(notes)
 }
 
-/// The canonical text of a program, or nothing where it is none.
-fn canonical_text(alloc: Global, text: &[u8], notes: &Notes) -> Result<Vec<u8>, NoMemory> {
-    if text.len() > 1 << 20 {
-        return Ok(Vec::new(alloc));
-    }
-    match tokens(alloc, text) {
-        Ok(list) => match parse(alloc, text, &list) {
-            Ok(tree) => print_tree(alloc, text, &tree, notes),
-            Err(ParseFault::NoMemory) => Err(NoMemory),
-            Err(ParseFault::Syntax(_)) => Ok(Vec::new(alloc)),
-        },
-        Err(TextFault::NoMemory) => Err(NoMemory),
-        Err(TextFault::Broken(..)) => Ok(Vec::new(alloc)),
-    }
-}
-
 /// Ends the test where the canonical text of a program isn't this one with the closing lines.
-fn expect_text(rt: &impl Abort, alloc: Global, text: &[u8], want: &str) -> Result<(), AllocError> {
-    let Ok(notes) = lettered(alloc) else {
-        return Err(AllocError);
-    };
-    let Ok(given) = canonical_text(alloc, text, &notes) else {
-        return Err(AllocError);
-    };
-    let whole = format!(in alloc; "{want}/* fail (L1 C7): unreachable */\n/* rounds: 2 */\n")?;
+fn expect_text(rt: &impl Abort, alloc: Global, text: &[u8], want: &str) -> Result<(), Fail> {
+    let tree = tree_in(alloc, text)?;
+    let notes = lettered(alloc)?;
+    let given = print_tree(alloc, text, &tree, &notes)?;
+    let whole = format!(in alloc; "{want}{CLOSING}")?;
     assert_eq!(rt; given.as_slice(), whole.as_bytes());
     Ok(())
 }
 
 #[test]
 fn programs(rt: HostRuntime) -> Result<(), Fail> {
-    for (text, want) in PROGRAMS {
+    for &(text, want) in &PROGRAMS {
         expect_text(&rt, rt.alloc(), text.as_bytes(), want)?;
     }
     Ok(())
@@ -153,7 +145,7 @@ fn programs(rt: HostRuntime) -> Result<(), Fail> {
 
 #[test]
 fn expressions(rt: HostRuntime) -> Result<(), Fail> {
-    for (text, printed) in EXPRESSIONS {
+    for &(text, printed) in &EXPRESSIONS {
         let source = format!(in rt.alloc(); "begin assume {text};end")?;
         let want = format!(in rt.alloc();
             "begin\n  /* (L1 C6) a */\n  assume {printed};\n  /* (L1 C{}) b */\nend\n",
@@ -166,7 +158,7 @@ fn expressions(rt: HostRuntime) -> Result<(), Fail> {
 
 #[test]
 fn long_chains(rt: HostRuntime) -> Result<(), Fail> {
-    for (piece, column) in [("not ", "4011"), ("-", "1011")] {
+    for &(piece, column) in &[("not ", "4011"), ("-", "1011")] {
         let mut chain = String::new(rt.alloc());
         for _ in 0..1000 {
             chain.push_str(piece)?;
@@ -177,5 +169,105 @@ fn long_chains(rt: HostRuntime) -> Result<(), Fail> {
         )?;
         expect_text(&rt, rt.alloc(), source.as_bytes(), want.as_str())?;
     }
+    Ok(())
+}
+
+/// The tree of `begin end`, which has one point.
+fn bare_tree(alloc: Global) -> Result<Tree, Fail>
+    ensures { IfOk result (λ tree. point_lines (program_lines (program_of tree)) ≡ 1) }
+{
+    let text = b"begin end";
+    let list = tokens(alloc, text)?;
+    let tree = parse(alloc, text, &list)?;
+    Ok(tree)
+}
+
+#[test]
+fn checked_program(rt: HostRuntime) -> Result<(), Fail> {
+    let tree = bare_tree(rt.alloc())?;
+    let mut notes = Notes::new(rt.alloc());
+    notes.point(b"top")?;
+    notes.closing(b"rounds: 2")?;
+    let checked = check(rt.alloc(), &tree)?;
+    let given = print(rt.alloc(), b"begin end", &checked, &notes)?;
+    let want = b"begin\n  /* (L1 C6) top */\nend\n/* rounds: 2 */\n";
+    assert_eq!(&rt; given.as_slice(), want.as_slice());
+    Ok(())
+}
+
+/// The place of a statement that ends at this offset.
+fn ending(end: usize) -> StmtAt
+    requires { IsPlace end }
+    ensures { StmtIsPlaced result }
+{
+    StmtAt {
+        start: 0,
+        called: 0,
+        first_block: 0,
+        second_block: 0,
+        end,
+    }
+}
+
+/// A tree that no text has: its statements end at offsets that don't rise.
+fn falling_tree(alloc: Global) -> Result<Tree, Fail> {
+    let stmts = vec![in alloc;
+        Stmt::Skip,
+        Stmt::Skip,
+        Stmt::Skip,
+        Stmt::Skip,
+        Stmt::Skip,
+        Stmt::Skip,
+        Stmt::Skip,
+    ]?;
+    let stmt_places = vec![in alloc;
+        ending(4),
+        ending(7),
+        ending(2),
+        ending(3),
+        ending(3),
+        ending(99),
+        ending(0),
+    ]?;
+    let stmt_items = vec![in alloc;
+        StmtId(0),
+        StmtId(1),
+        StmtId(2),
+        StmtId(3),
+        StmtId(4),
+        StmtId(5),
+        StmtId(6),
+    ]?;
+    Ok(Tree::from_parts(TreeParts {
+        letters: Vec::new(alloc),
+        names: Vec::new(alloc),
+        decls: Vec::new(alloc),
+        decl_places: Vec::new(alloc),
+        procs: Vec::new(alloc),
+        proc_places: Vec::new(alloc),
+        exprs: Vec::new(alloc),
+        expr_places: Vec::new(alloc),
+        stmts,
+        stmt_places,
+        name_items: Vec::new(alloc),
+        name_item_places: Vec::new(alloc),
+        stmt_items,
+        main: MainTree {
+            locals: DeclList { first: 0, count: 0 },
+            body: Block { first: 0, count: 7 },
+        },
+        main_begin: 0,
+    }))
+}
+
+#[test]
+fn places_in_any_order(rt: HostRuntime) -> Result<(), Fail> {
+    let tree = falling_tree(rt.alloc())?;
+    let notes = lettered(rt.alloc())?;
+    let given = print_tree(rt.alloc(), b"ab\ncd\n\ne", &tree, &notes)?;
+    let want =
+        "begin\n  /* (L2 C3) a */\n  skip;\n  /* (L2 C2) b */\n  skip;\n  /* (L4 C1) c */\n  skip;\n  /* (L1 C3) d */\n  skip;\n  /* (L2 C1) e */\n  skip;\n  /* (L2 C1) f */\n  skip;\n  /* (L4 C2) g */\n  skip;\n  /* (L1 C1) h */\nend\n";
+    let whole = format!(in rt.alloc(); "{want}{CLOSING}")?;
+    assert_eq!(&rt; given.as_slice(), whole.as_bytes());
     Ok(())
 }

@@ -1,7 +1,7 @@
 //! A program in which every production stands: its fronts, and texts in which one word of it was left out, doubled or
 //! replaced, with the place at which each stops being a program, worked out by hand.
 
-use crate::tests::expect_answer;
+use crate::parses::answer;
 use std::alloc::{AllocError, Global};
 use std::test::Fail;
 
@@ -99,26 +99,27 @@ fn start_of(text: &[u8], number: usize) -> usize {
 fn fronts_go_wrong_at_their_end(rt: HostRuntime) -> Result<(), Fail> {
     for (offset, byte) in PROGRAM.as_bytes().iter().enumerate() {
         if *byte == b' ' {
+            let given = answer(rt.alloc(), &PROGRAM.as_bytes()[..offset])?;
             let want = format!(in rt.alloc(); "syntax error at byte {offset}")?;
-            expect_answer(&rt, rt.alloc(), &PROGRAM.as_bytes()[..offset], false, &want)?;
+            assert_eq!(&rt; given.as_str(), want.as_str());
         }
     }
-    expect_answer(
-        &rt,
-        rt.alloc(),
-        PROGRAM.as_bytes(),
-        false,
-        "37 expressions, 16 statements",
-    )?;
+    let given = answer(rt.alloc(), PROGRAM.as_bytes())?;
+    assert_eq!(&rt; given.as_str(), "37 expressions, 16 statements");
     Ok(())
 }
 
 #[test]
 fn edits_go_wrong_at_their_place(rt: HostRuntime) -> Result<(), Fail> {
-    for (place, words, number) in EDITS {
+    for &(place, words, number) in &EDITS {
         let text = edited(rt.alloc(), place, words)?;
+        let given = answer(rt.alloc(), &text)?;
         let want = format!(in rt.alloc(); "syntax error at byte {}", start_of(&text, number))?;
-        expect_answer(&rt, rt.alloc(), &text, false, &want)?;
+        assert_eq!(&rt;
+            given.as_str(),
+            want.as_str(),
+            "with {words} at word {place}"
+        );
     }
     Ok(())
 }
