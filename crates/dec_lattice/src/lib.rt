@@ -11,8 +11,6 @@ mod combine;
 mod lattice;
 mod operation;
 mod over;
-#[cfg(test)]
-mod tests;
 
 pub use lattice::{join, narrow, widen};
 pub use memory::NoMemory;

@@ -15,7 +15,7 @@ pub assembly-top : (n : ℕ) → assembly n [] [] ≡ top_matrix n
 unfolding assembly top_matrix
 assembly-top n = table-same (2 * n) _ top_entry (λ i j p q. assembly_entry-apart [] [] i j (joint-not [] i j (λ e h. absurd (omega arith))))
 
-pub even-top : (n : ℕ) → IsEvenMatrix n (top_matrix n)
+even-top : (n : ℕ) → IsEvenMatrix n (top_matrix n)
 unfolding top_value
 even-top n = octagon-top n
 

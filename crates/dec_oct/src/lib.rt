@@ -15,8 +15,6 @@ mod parts;
 mod reading;
 mod same;
 mod tabulate;
-#[cfg(test)]
-mod tests;
 mod value;
 mod walk;
 

@@ -11,8 +11,6 @@ mod block;
 mod ends;
 mod pairs;
 mod small;
-#[cfg(test)]
-mod tests;
 
 pub use block::{Outcome, Scratch, close_block};
 pub use memory::NoMemory;
