@@ -40,6 +40,13 @@ void *realloc(void *p, size_t n) { return ++made == refused ? 0 : __libc_realloc
 """
 
 
+def built_shim(folder):
+    source, shim = pathlib.Path(folder) / "refuse.c", pathlib.Path(folder) / "refuse.so"
+    source.write_text(SHIM)
+    subprocess.run(["cc", "-O2", "-shared", "-fPIC", "-o", shim, source], check=True)
+    return shim
+
+
 def run(program, words, shim, refused, told=None):
     environment = {**os.environ, "LD_PRELOAD": str(shim), "REFUSED": str(refused)}
     if told:
@@ -71,9 +78,7 @@ def main():
         ["bench", "2"],
     ]
     with tempfile.TemporaryDirectory() as folder:
-        source, shim = pathlib.Path(folder) / "refuse.c", pathlib.Path(folder) / "refuse.so"
-        source.write_text(SHIM)
-        subprocess.run(["cc", "-O2", "-shared", "-fPIC", "-o", shim, source], check=True)
+        shim = built_shim(folder)
         for words in calls:
             try_words(program, words, shim, folder)
 

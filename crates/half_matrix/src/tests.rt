@@ -42,3 +42,35 @@ fn a_write_is_not_seen_by_another_holder(rt: HostRuntime) -> Result<(), Fail> {
     expect_words(&rt, one.writing(alloc)?, &changed);
     Ok(())
 }
+
+/// Asserts that a matrix over 128 variables has no bounds but 0 on the diagonal.
+fn expect_top(rt: &impl Abort, m: &HalfBuf, name: &str) {
+    assert_eq!(rt; m.vars(), 128);
+    'rows: for i in 0..256_u32 {
+        'columns: for j in 0..256_u32 {
+            let word = if i == j { 0 } else { NONE };
+            assert_eq!(rt; m.get(i, j), word, "{name} at {i}, {j}");
+        }
+    }
+}
+
+#[test]
+fn a_write_is_not_seen_by_a_hundred_other_holders(rt: HostRuntime) -> Result<(), Fail> {
+    let alloc = rt.alloc();
+    let mut one = HalfMatrix::top(alloc, 128)?;
+    let mut others = Vec::new(alloc);
+    for _ in 0..100_u32 {
+        others.push(one.share()?)?;
+    }
+    let m = one.writing(alloc)?;
+    assert_eq!(rt; m.vars(), 128);
+    m.set(3, 200, 5);
+    for other in &others {
+        expect_top(&rt, other.buf(), "a share");
+    }
+    let m = one.buf();
+    assert_eq!(rt; m.vars(), 128);
+    assert_eq!(rt; m.get(3, 200), 5);
+    assert_eq!(rt; m.get(201, 2), 5);
+    Ok(())
+}

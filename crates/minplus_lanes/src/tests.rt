@@ -19,6 +19,9 @@ const HALF: i64 = LIMIT / 2;
 /// The greatest size of a small word.
 const SMALL: i64 = LIMIT / 4;
 
+/// The greatest size of a weight, 2^62.
+const WEIGHT: i64 = 2 * LIMIT;
+
 type Row = [i64; 36];
 
 fn is_word(x: i64) -> bool
@@ -81,16 +84,18 @@ fn are_low(row: &Row) -> bool
     true
 }
 
-/// A row of none, of the limits and of numbers on both sides of 0, in another order for each seed.
+/// A row of none, of the limits, of those one inside them and of numbers on both sides of 0, in another order for each seed.
 fn row_of(seed: usize, none: i64, most: i64) -> Row {
     let mut row = [none; PLACES];
     for j in 0..PLACES {
         let k = seed.wrapping_add(j.wrapping_mul(j)).wrapping_mul(31);
-        row[j] = match k % 7 {
+        row[j] = match k % 9 {
             0 => none,
             1 => most.wrapping_neg(),
             2 => most,
             3 => 0,
+            4 => most.wrapping_sub(1),
+            5 => 1_i64.wrapping_sub(most),
             _ => (k % 1000) as i64 - 500,
         };
     }
@@ -203,7 +208,11 @@ fn kernels_of_every_length(rt: HostRuntime) {
         relaxes(&rt, n, NONE, -9);
         relaxes(&rt, n, 0, 3);
         relaxes(&rt, n, LIMIT, -LIMIT);
-        relaxes(&rt, n, 2 * LIMIT, -2 * LIMIT);
+        relaxes(&rt, n, WEIGHT, -WEIGHT);
+        relaxes(&rt, n, WEIGHT, WEIGHT);
+        relaxes(&rt, n, WEIGHT, NONE);
+        relaxes(&rt, n, NONE, WEIGHT);
+        relaxes(&rt, n, -WEIGHT, WEIGHT - 1);
         relaxes_small(&rt, n, NONE, NONE);
         relaxes_small(&rt, n, 7, NONE);
         relaxes_small(&rt, n, NONE, -9);
