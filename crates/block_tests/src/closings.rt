@@ -3,7 +3,7 @@ ghost use Rattle.std.specs.Prelude.{◌≤◌, IfOk};
 ghost use Rattle.dec_oct.specs.Value.{blocks_of};
 ghost use Rattle.dec_oct.specs.Given.{IsEvenGiven};
 
-use crate::matrices::{Constraint, matrix_with};
+use crate::matrices::{Constraint, TWO_PAIRS, TWO_PAIRS_CLOSED, matrix_with};
 use crate::values::{expect_blocks, expect_marks, one_part};
 use crate::words::{expect_words, value_words};
 use dec_oct::{DecOct, Parts};
@@ -31,28 +31,10 @@ const ROWS: [Row; 4] = [
     Row {
         name: "two pairs that have bounds become one block",
         vars: 4,
-        bounds: &[
-            (0, 1, 0),
-            (1, 0, 2),
-            (0, 2, 1),
-            (2, 0, -1),
-            (4, 5, 0),
-            (5, 4, 2),
-            (4, 6, 1),
-            (6, 4, -1),
-        ],
+        bounds: TWO_PAIRS,
         components: &[&[0, 1], &[2, 3]],
         closed: &[&[0, 1, 2, 3]],
-        words: &[
-            0, 0, 1, -1, 1, 0, 2, -1, //
-            2, 0, 3, -1, 2, 1, 3, 0, //
-            -1, -1, 0, -2, 0, -1, 1, -2, //
-            3, 1, 4, 0, 3, 2, 4, 1, //
-            1, 0, 2, -1, 0, 0, 1, -1, //
-            2, 1, 3, 0, 2, 0, 3, -1, //
-            0, -1, 1, -2, -1, -1, 0, -2, //
-            3, 2, 4, 1, 3, 1, 4, 0,
-        ],
+        words: TWO_PAIRS_CLOSED,
         rows: (48, 64),
     },
     Row {

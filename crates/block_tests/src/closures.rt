@@ -1,5 +1,5 @@
 //! Worked closures of one block.
-use crate::matrices::{Constraint, matrix_with};
+use crate::matrices::{Constraint, TWO_PAIRS, TWO_PAIRS_CLOSED, matrix_with};
 use crate::words::{expect_words, matrix_words};
 use minplus_lanes::RowCount;
 use oct_def::{LIMIT, NONE};
@@ -42,26 +42,8 @@ fn two_pairs_of_variables_become_four_related_ones(rt: HostRuntime) -> Result<()
         &rt,
         rt.alloc(),
         4,
-        &[
-            (0, 1, 0),
-            (1, 0, 2),
-            (0, 2, 1),
-            (2, 0, -1),
-            (4, 5, 0),
-            (5, 4, 2),
-            (4, 6, 1),
-            (6, 4, -1),
-        ],
-        &[
-            0, 0, 1, -1, 1, 0, 2, -1, //
-            2, 0, 3, -1, 2, 1, 3, 0, //
-            -1, -1, 0, -2, 0, -1, 1, -2, //
-            3, 1, 4, 0, 3, 2, 4, 1, //
-            1, 0, 2, -1, 0, 0, 1, -1, //
-            2, 1, 3, 0, 2, 0, 3, -1, //
-            0, -1, 1, -2, -1, -1, 0, -2, //
-            3, 2, 4, 1, 3, 1, 4, 0,
-        ],
+        TWO_PAIRS,
+        TWO_PAIRS_CLOSED,
         "0 <= a <= 1, b = a + 1, 0 <= c <= 1, d = c + 1",
     )
 }
@@ -119,47 +101,59 @@ fn a_sum_and_a_difference_of_equal_variables_are_bounded(rt: HostRuntime) -> Res
     )
 }
 
+/// The greatest bound.
+const L: i64 = LIMIT;
+
+/// Two less than that.
+const K: i64 = LIMIT - 2;
+
+/// Half of the greatest bound.
+const H: i64 = LIMIT / 2;
+
+/// One less than that.
+const G: i64 = LIMIT / 2 - 1;
+
+/// The words of three variables after one closure, whose sums are clamped.
+const ONCE: [i64; 36] = [
+    0, -L, -L, -G, N, -1, //
+    N, 0, G, N, N, N, //
+    N, -G, 0, N, N, N, //
+    G, -L, -L, 0, N, -1, //
+    N, -1, -1, N, 0, K, //
+    N, N, N, N, N, 0,
+];
+
+/// Their words after a second one.
+const TWICE: [i64; 36] = [
+    0, -L, -L, -G, N, -H, //
+    N, 0, G, N, N, N, //
+    N, -G, 0, N, N, N, //
+    G, -L, -L, 0, N, -1, //
+    N, -H, -1, N, 0, K, //
+    N, N, N, N, N, 0,
+];
+
 #[test]
 fn a_second_closure_may_lower_a_clamped_bound(rt: HostRuntime) -> Result<(), Fail> {
     let alloc = rt.alloc();
-    let l = LIMIT;
-    let k = LIMIT - 2;
-    let h = LIMIT / 2;
-    let g = LIMIT / 2 - 1;
     let mut scratch = Scratch::reserve(alloc, 3)?;
     let mut count = RowCount::new();
-    let constraints = [
-        (1, 2, g),
-        (0, 3, -g),
-        (4, 5, k),
-        (3, 2, -l - 2),
-        (2, 3, l + 2),
+    let bounds = [
+        (1, 2, G),
+        (0, 3, -G),
+        (4, 5, K),
+        (3, 2, -L - 2),
+        (2, 3, L + 2),
     ];
-    let mut matrix = matrix_with(alloc, 3, &constraints)?;
+    let mut matrix = matrix_with(alloc, 3, &bounds)?;
     let m = matrix.writing(alloc)?;
     assert!(rt; m.vars() <= scratch.vars());
     let outcome = close_block(m, &mut scratch, &mut count);
     assert_eq!(rt; outcome, Outcome::Closed);
-    let once = [
-        0, -l, -l, -g, N, -1, //
-        N, 0, g, N, N, N, //
-        N, -g, 0, N, N, N, //
-        g, -l, -l, 0, N, -1, //
-        N, -1, -1, N, 0, k, //
-        N, N, N, N, N, 0,
-    ];
-    expect_words(&rt, &matrix_words(alloc, m)?, &once, "once");
+    expect_words(&rt, &matrix_words(alloc, m)?, &ONCE, "once");
     assert!(rt; m.vars() <= scratch.vars());
     let outcome = close_block(m, &mut scratch, &mut count);
     assert_eq!(rt; outcome, Outcome::Closed);
-    let twice = [
-        0, -l, -l, -g, N, -h, //
-        N, 0, g, N, N, N, //
-        N, -g, 0, N, N, N, //
-        g, -l, -l, 0, N, -1, //
-        N, -h, -1, N, 0, k, //
-        N, N, N, N, N, 0,
-    ];
-    expect_words(&rt, &matrix_words(alloc, m)?, &twice, "twice");
+    expect_words(&rt, &matrix_words(alloc, m)?, &TWICE, "twice");
     Ok(())
 }

@@ -10,6 +10,30 @@ use std::alloc::Global;
 /// A bound on V_j - V_i.
 pub(crate) type Constraint = (u32, u32, i64);
 
+/// Two pairs of variables a, b and c, d: a and c from 0 to 1, b = a + 1 and d = c + 1.
+pub(crate) const TWO_PAIRS: &[Constraint] = &[
+    (0, 1, 0),
+    (1, 0, 2),
+    (0, 2, 1),
+    (2, 0, -1),
+    (4, 5, 0),
+    (5, 4, 2),
+    (4, 6, 1),
+    (6, 4, -1),
+];
+
+/// The words of their tight closure, in which all four variables are related.
+pub(crate) const TWO_PAIRS_CLOSED: &[i64] = &[
+    0, 0, 1, -1, 1, 0, 2, -1, //
+    2, 0, 3, -1, 2, 1, 3, 0, //
+    -1, -1, 0, -2, 0, -1, 1, -2, //
+    3, 1, 4, 0, 3, 2, 4, 1, //
+    1, 0, 2, -1, 0, 0, 1, -1, //
+    2, 1, 3, 0, 2, 0, 3, -1, //
+    0, -1, 1, -2, -1, -1, 0, -2, //
+    3, 2, 4, 1, 3, 1, 4, 0,
+];
+
 /// The word of a bound moved outward into the limits.
 fn word_within(bound: i64) -> i64
     ensures { IsWord result }

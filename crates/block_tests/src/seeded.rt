@@ -50,7 +50,7 @@ fn value_from(rt: &impl Abort, alloc: Global, random: &mut Random) -> Result<Dec
     Ok(v)
 }
 
-/// With this seed one of the two values is Bottom in some twenty rounds, and both are in two.
+/// With this seed one of the two values is Bottom in 27 rounds, and both are in two.
 #[test]
 fn calls_give_the_entries_of_the_definitions(rt: HostRuntime) -> Result<(), Fail> {
     let alloc = rt.alloc();
