@@ -17,8 +17,3 @@ pub use lexer::{law_one_cut_or_fault, law_tokens_in_order, law_tokens_spelled, t
 pub use place::{Place, place_of};
 pub use text_rule::{TextFault, TextRule};
 pub use token::{Token, TokenKind, Tokens};
-
-#[cfg(test)]
-mod tests;
-#[cfg(test)]
-mod token_tests;

@@ -11,6 +11,8 @@ mod edits;
 #[cfg(test)]
 mod graphs;
 #[cfg(test)]
+mod lexes;
+#[cfg(test)]
 mod parses;
 #[cfg(test)]
 mod prints;

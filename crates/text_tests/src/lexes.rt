@@ -1,10 +1,13 @@
-use crate::tokens;
-use std::alloc::{AllocError, Global};
-use std::process::Abort;
+//! Texts that were cut into tokens by hand, and places that were counted by hand.
+
+use crate::texts::long_text;
+use spl_text::{Place, Tokens, place_of, tokens};
+use std::alloc::Global;
+use std::fmt::Write;
 use std::test::Fail;
 
-/// Texts and their tokens, worked out by hand.
-const TEXTS: [(&str, &str); 49] = [
+/// Texts and their tokens; texts that break a rule, and their fault.
+const TEXTS: [(&str, &str); 66] = [
     ("", ""),
     (" \t\r\n", ""),
     ("begin end", "Begin 0-5 End 6-9"),
@@ -81,10 +84,6 @@ const TEXTS: [(&str, &str); 49] = [
     ),
     ("2305843009213693952", "Number(2305843009213693952) 0-19"),
     ("0002305843009213693952", "Number(2305843009213693952) 0-22"),
-];
-
-/// Texts that break a rule, and their fault.
-const FAULTS: [(&str, &str); 17] = [
     ("2305843009213693953", "BigLiteral at 0"),
     ("x = 99999999999999999999;", "BigLiteral at 4"),
     ("99999999999999999999 @", "BigLiteral at 0"),
@@ -161,76 +160,69 @@ const LONG_TEXTS: [(&str, &str, usize, &str, &str); 35] = [
     ("/*", "*", 1000000, "/x", "Name 1000003-1000004"),
 ];
 
-/// A text of a head, a piece so many times, and a tail.
-fn long_text(
-    alloc: Global,
-    head: &str,
-    piece: &str,
-    count: usize,
-    tail: &str,
-) -> Result<Vec<u8>, AllocError> {
-    let mut text = Vec::new(alloc);
-    text.extend_from_slice(head.as_bytes())?;
-    for _ in 0..count {
-        text.extend_from_slice(piece.as_bytes())?;
+/// Offsets of `a\nbc\n\nd`, and the line and the column of each.
+const PLACES: [(usize, u32, u32); 7] = [
+    (0, 1, 1),
+    (1, 1, 2),
+    (2, 2, 1),
+    (4, 2, 3),
+    (5, 3, 1),
+    (6, 4, 1),
+    (7, 4, 2),
+];
+
+/// The tokens of a list with their spans.
+fn tokens_text(alloc: Global, list: &Tokens) -> Result<String, Fail> {
+    let mut line = String::new(alloc);
+    for k in 0..list.len() {
+        let token = list.at(k);
+        let between = if k == 0 { "" } else { " " };
+        write!(line, "{between}{:?} ", token.kind)?;
+        write!(line, "{}-{}", token.start, token.end)?;
     }
-    text.extend_from_slice(tail.as_bytes())?;
-    Ok(text)
+    Ok(line)
 }
 
-/// The tokens of a text with their spans, or their number where they're many, or the fault.
-fn shown(alloc: Global, text: &[u8]) -> Result<String, AllocError> {
-    let mut line = String::new(alloc);
+/// The tokens of a text, or their number where they are many, or the fault.
+fn answer(alloc: Global, text: &[u8]) -> Result<String, Fail> {
     if text.len() > 1 << 20 {
-        return Ok(line);
+        return Err(Fail::new("the text is too long"));
     }
     match tokens(alloc, text) {
-        Ok(list) => {
-            if list.len() > 20 {
-                return format!(in alloc; "{} tokens", list.len());
-            }
-            for k in 0..list.len() {
-                let token = list.at(k);
-                let between = if k == 0 { "" } else { " " };
-                line.push_str(format!(in alloc;
-                    "{between}{:?} {}-{}",
-                    token.kind, token.start, token.end
-                )?.as_str())?;
-            }
-            Ok(line)
-        }
-        Err(fault) => format!(in alloc; "{fault}"),
+        Ok(list) if list.len() > 20 => Ok(format!(in alloc; "{} tokens", list.len())?),
+        Ok(list) => tokens_text(alloc, &list),
+        Err(fault) => Ok(format!(in alloc; "{fault}")?),
     }
 }
 
-/// Ends the test where a text isn't shown so.
-fn expect_shown(rt: &impl Abort, alloc: Global, text: &[u8], want: &str) -> Result<(), AllocError> {
-    let shown = shown(alloc, text)?;
-    assert_eq!(rt; shown.as_str(), want);
-    Ok(())
-}
-
 #[test]
-fn texts(rt: HostRuntime) -> Result<(), Fail> {
-    for (text, want) in TEXTS {
-        expect_shown(&rt, rt.alloc(), text.as_bytes(), want)?;
+fn texts_have_tokens(rt: HostRuntime) -> Result<(), Fail> {
+    for &(text, want) in &TEXTS {
+        let given = answer(rt.alloc(), text.as_bytes())?;
+        assert_eq!(&rt; given.as_str(), want, "of {text}");
     }
     Ok(())
 }
 
 #[test]
-fn faults(rt: HostRuntime) -> Result<(), Fail> {
-    for (text, want) in FAULTS {
-        expect_shown(&rt, rt.alloc(), text.as_bytes(), want)?;
+fn long_texts_have_tokens(rt: HostRuntime) -> Result<(), Fail> {
+    for &(head, piece, count, tail, want) in &LONG_TEXTS {
+        let text = long_text(rt.alloc(), (head, piece), count, "", ("", tail))?;
+        let given = answer(rt.alloc(), &text)?;
+        assert_eq!(&rt; given.as_str(), want, "of {piece}");
     }
     Ok(())
 }
 
 #[test]
-fn long_texts(rt: HostRuntime) -> Result<(), Fail> {
-    for (head, piece, count, tail, want) in LONG_TEXTS {
-        let text = long_text(rt.alloc(), head, piece, count, tail)?;
-        expect_shown(&rt, rt.alloc(), &text, want)?;
+fn offsets_have_places(rt: HostRuntime) {
+    let text = b"a\nbc\n\nd";
+    for &(offset, line, column) in &PLACES {
+        assert!(rt; offset <= text.len());
+        assert_eq!(rt;
+            place_of(text, offset),
+            Place { line, column },
+            "at {offset}"
+        );
     }
-    Ok(())
 }
