@@ -1,14 +1,15 @@
 //! Programs whose answers were worked out by hand.
 
-use spl_parser::parse;
-use spl_text::{place_of, tokens};
+use crate::texts::read;
+use spl_text::place_of;
 use spl_types::{CheckFault, Checked, check};
-use std::alloc::{AllocError, Global};
-use std::process::Abort;
+use std::alloc::Global;
+use std::fmt::Write;
 use std::test::Fail;
 
-/// Programs, and the names of the dimensions of each procedure, main last.
-const ACCEPTED: [(&str, &str); 16] = [
+/// Programs, and the names of the dimensions of each procedure, main last; programs that break a rule, and the first place
+/// of one.
+const ANSWERS: [(&str, &str); 58] = [
     ("begin end", "0:; "),
     ("var x:int, y:int; begin x = y; end", "2: x y; "),
     (
@@ -58,10 +59,6 @@ const ACCEPTED: [(&str, &str); 16] = [
         "proc P(a:int, b:int) returns (s:int, d:int)\nbegin\ns = a + b;\nd = a - b;\nend\nvar x:int, y:int;\nbegin\nassume x >= 0 and x <= 3;\n(x, y) = P(x, x);\nend",
         "4: a b s d; 2: x y; ",
     ),
-];
-
-/// Programs that break a rule, and the first place of one.
-const REFUSED: [(&str, &str); 42] = [
     ("var x:real; begin end", "UnsupportedType at L1 C7"),
     ("var x:sqrt; begin end", "UnsupportedType at L1 C7"),
     (
@@ -286,81 +283,56 @@ const LIMITS: [Repeated; 10] = [
 ];
 
 /// The names of the dimensions of each procedure.
-fn shown(alloc: Global, checked: &Checked) -> Result<String, AllocError> {
+fn dims_text(alloc: Global, checked: &Checked) -> Result<String, Fail> {
     let mut line = String::new(alloc);
-    let count = checked.tree().proc_count();
-    for p in 0..=count {
-        line.push_str(format!(in alloc; "{}:", checked.dims(p))?.as_str())?;
-        if let Ok(names) = checked.names(alloc, p) {
-            for v in 0..names.len() {
-                let text = String::from_utf8_lossy(alloc, names.name(v))?;
-                line.push_str(" ")?;
-                line.push_str(text.as_str())?;
-            }
+    for p in 0..=checked.tree().proc_count() {
+        let names = checked.names(alloc, p)?;
+        write!(line, "{}:", checked.dims(p))?;
+        for v in 0..names.len() {
+            let text = String::from_utf8_lossy(alloc, names.name(v))?;
+            write!(line, " {text}")?;
         }
-        line.push_str("; ")?;
+        write!(line, "; ")?;
     }
     Ok(line)
 }
 
 /// A fault by its rule and its place.
-fn refused(alloc: Global, text: &[u8], fault: CheckFault) -> Result<String, AllocError> {
+fn fault_text(alloc: Global, text: &[u8], fault: CheckFault) -> Result<String, Fail> {
+    let mut line = String::new(alloc);
     match fault {
         CheckFault::Broken(rule, at) if at <= text.len() && text.len() <= 1 << 20 => {
             let place = place_of(text, at);
-            format!(in alloc; "{rule:?} at L{} C{}", place.line, place.column)
+            write!(line, "{rule:?} at L{} C{}", place.line, place.column)?;
         }
-        _ => format!(in alloc; "{fault}"),
+        _ => write!(line, "{fault}")?,
     }
+    Ok(line)
 }
 
 /// What the checks answer for a text, with the names of all dimensions or how many main has.
-fn answer(alloc: Global, text: &[u8], whole: bool) -> Result<String, AllocError> {
-    if text.len() > 1 << 20 {
-        return Ok(String::new(alloc));
-    }
-    let list = match tokens(alloc, text) {
-        Ok(list) => list,
-        Err(fault) => return format!(in alloc; "{fault}"),
-    };
-    let tree = match parse(alloc, text, &list) {
+fn answer(alloc: Global, text: &[u8], whole: bool) -> Result<String, Fail> {
+    let tree = match read(alloc, text)? {
         Ok(tree) => tree,
-        Err(fault) => return format!(in alloc; "{fault}"),
+        Err(fault) => return Ok(fault),
     };
     match check(alloc, &tree) {
+        Ok(checked) if whole => dims_text(alloc, &checked),
         Ok(checked) => {
-            if whole {
-                shown(alloc, &checked)
-            } else {
-                let main = checked.tree().proc_count();
-                format!(in alloc; "accepted, main has {}", checked.dims(main))
-            }
+            let main = checked.tree().proc_count();
+            Ok(format!(in alloc; "accepted, main has {}", checked.dims(main))?)
         }
-        Err(fault) => refused(alloc, text, fault),
+        Err(fault) => fault_text(alloc, text, fault),
     }
-}
-
-/// Ends the test where the answer for a text is another one.
-fn expect_answer(
-    rt: &impl Abort,
-    alloc: Global,
-    text: &[u8],
-    whole: bool,
-    want: &str,
-) -> Result<(), AllocError> {
-    let given = answer(alloc, text, whole)?;
-    assert_eq!(rt; given.as_str(), want);
-    Ok(())
 }
 
 /// The text of a repetition.
-fn text_of(alloc: Global, text: &Repeated) -> Result<String, AllocError> {
-    let mut line = String::new(alloc);
-    line.push_str(text.head)?;
+fn text_of(alloc: Global, text: &Repeated) -> Result<String, Fail> {
+    let mut line = String::from_str(alloc, text.head)?;
     for k in 0..text.count {
         line.push_str(text.piece.0)?;
         if text.numbered {
-            line.push_str(format!(in alloc; "{k}")?.as_str())?;
+            write!(line, "{k}")?;
         }
         line.push_str(text.piece.1)?;
     }
@@ -369,17 +341,10 @@ fn text_of(alloc: Global, text: &Repeated) -> Result<String, AllocError> {
 }
 
 #[test]
-fn accepts(rt: HostRuntime) -> Result<(), Fail> {
-    for (text, want) in ACCEPTED {
-        expect_answer(&rt, rt.alloc(), text.as_bytes(), true, want)?;
-    }
-    Ok(())
-}
-
-#[test]
-fn refuses(rt: HostRuntime) -> Result<(), Fail> {
-    for (text, want) in REFUSED {
-        expect_answer(&rt, rt.alloc(), text.as_bytes(), false, want)?;
+fn texts_are_checked(rt: HostRuntime) -> Result<(), Fail> {
+    for &(text, want) in &ANSWERS {
+        let given = answer(rt.alloc(), text.as_bytes(), true)?;
+        assert_eq!(&rt; given.as_str(), want, "of {text}");
     }
     Ok(())
 }
@@ -388,43 +353,45 @@ fn refuses(rt: HostRuntime) -> Result<(), Fail> {
 fn limits(rt: HostRuntime) -> Result<(), Fail> {
     for text in &LIMITS {
         let line = text_of(rt.alloc(), text)?;
-        expect_answer(&rt, rt.alloc(), line.as_bytes(), false, text.want)?;
+        let given = answer(rt.alloc(), line.as_bytes(), false)?;
+        assert_eq!(&rt; given.as_str(), text.want, "of {}", text.count);
     }
     Ok(())
 }
 
-/// A text of almost a mebibyte: 256 procedures with a hundred variables and a dozen long statements each.
-fn large_text(alloc: Global) -> Result<String, AllocError> {
-    let mut text = String::new(alloc);
-    for p in 0..256 {
-        let head = format!(in alloc; "proc p{p}(a:int) returns (r:int) var ")?;
-        text.push_str(head.as_str())?;
-        for k in 0..100 {
-            text.push_str(format!(in alloc; "x{p}_{k}:int, ")?.as_str())?;
-        }
-        text.push_str("y:int; begin ")?;
-        for _ in 0..12 {
-            text.push_str("y = a")?;
-            for k in 0..20 {
-                text.push_str(format!(in alloc; " + x{p}_{k}")?.as_str())?;
-            }
-            text.push_str("; ")?;
-        }
-        text.push_str("end ")?;
+/// Appends a procedure with a hundred variables and a dozen long statements.
+fn put_large(text: &mut String, p: u32) -> Result<(), Fail> {
+    write!(text, "proc p{p}(a:int) returns (r:int) var ")?;
+    for k in 0..100 {
+        write!(text, "x{p}_{k}:int, ")?;
     }
-    text.push_str("begin end")?;
-    Ok(text)
+    text.push_str("y:int; begin ")?;
+    for _ in 0..12 {
+        put_sum(text, p)?;
+    }
+    text.push_str("end ")?;
+    Ok(())
 }
 
+/// Appends a statement with a sum of twenty variables.
+fn put_sum(text: &mut String, p: u32) -> Result<(), Fail> {
+    text.push_str("y = a")?;
+    for k in 0..20 {
+        write!(text, " + x{p}_{k}")?;
+    }
+    text.push_str("; ")?;
+    Ok(())
+}
+
+/// A text of almost a mebibyte: 256 procedures with a hundred variables and a dozen long statements each.
 #[test]
 fn large(rt: HostRuntime) -> Result<(), Fail> {
-    let text = large_text(rt.alloc())?;
-    expect_answer(
-        &rt,
-        rt.alloc(),
-        text.as_bytes(),
-        false,
-        "accepted, main has 0",
-    )?;
+    let mut text = String::new(rt.alloc());
+    for p in 0..256 {
+        put_large(&mut text, p)?;
+    }
+    text.push_str("begin end")?;
+    let given = answer(rt.alloc(), text.as_bytes(), false)?;
+    assert_eq!(&rt; given.as_str(), "accepted, main has 0");
     Ok(())
 }

@@ -6,13 +6,13 @@ ghost use Rattle.spl_core.specs.Facts.{CondFits, EdgeFits, ExprFits};
 ghost use Rattle.spl_core.specs.Graph.{graph_of};
 ghost use Rattle.control_points.specs.CoreOf.{core_of as core_from};
 
-use crate::texts::{core_in, edge_of};
+use crate::texts::{core_in, edge_of, long_text, tree_in};
 use control_points::{Built, core_of, law_places, offset_of};
 use spl_core::{Action, Core, CoreCond, CoreExpr, Edge, Span};
-use spl_parser::parse;
-use spl_text::tokens;
 use spl_types::{Checked, check};
 use std::alloc::{AllocError, Global};
+use std::fmt::Write;
+use std::process::Abort;
 use std::test::Fail;
 
 /// A text; its procedures (inputs, outputs, dimensions, entry, exit), the owner of each point and the edges; the point and
@@ -170,203 +170,231 @@ fn cond_text(alloc: Global, core: &Core, c: u32) -> Result<String, AllocError>
     }
 }
 
-/// The dimensions of a span.
-fn span_text(alloc: Global, core: &Core, span: Span) -> Result<String, AllocError>
+/// Appends the dimensions of a span in parentheses.
+fn put_span(line: &mut String, core: &Core, span: Span) -> Result<(), Fail>
     requires { span.first + span.count ≤ length core.now.dims }
 {
-    let mut line = String::new(alloc);
+    line.push_str("(")?;
     for k in 0..span.count {
         let gap = if k == 0 { "" } else { " " };
-        let dim = core.span_item(span, k);
-        line.push_str(format!(in alloc; "{gap}{dim}")?.as_str())?;
+        write!(line, "{gap}{}", core.span_item(span, k))?;
     }
-    Ok(line)
+    line.push_str(")")?;
+    Ok(())
 }
 
-/// What an edge does.
-fn action_text(alloc: Global, core: &Core, edge: Edge) -> Result<String, AllocError>
+/// Appends what an edge does.
+fn put_action(line: &mut String, alloc: Global, core: &Core, edge: Edge) -> Result<(), Fail>
     requires { EdgeFits core.now edge }
 {
     match edge.action {
-        Action::Skip => format!(in alloc; "skip"),
+        Action::Skip => line.push_str("skip")?,
         Action::Assign { target, expr } => {
             let expr = expr_text(alloc, core, expr)?;
-            format!(in alloc; "v{target}={expr}")
+            write!(line, "v{target}={expr}")?;
         }
-        Action::Havoc { target } => format!(in alloc; "v{target}=?"),
+        Action::Havoc { target } => write!(line, "v{target}=?")?,
         Action::Test { cond, wanted } => {
             let word = if wanted { "if" } else { "unless" };
             let cond = cond_text(alloc, core, cond)?;
-            format!(in alloc; "{word} {cond}")
+            write!(line, "{word} {cond}")?;
         }
         Action::Call {
             callee,
             args,
             targets,
         } => {
-            let args = span_text(alloc, core, args)?;
-            let targets = span_text(alloc, core, targets)?;
-            format!(in alloc; "call{callee}({args})({targets})")
+            write!(line, "call{callee}")?;
+            put_span(line, core, args)?;
+            put_span(line, core, targets)?;
         }
         Action::Start { pairs } => {
-            let pairs = span_text(alloc, core, pairs)?;
-            format!(in alloc; "start({pairs})")
+            line.push_str("start")?;
+            put_span(line, core, pairs)?;
         }
     }
+    Ok(())
 }
 
-/// The edges of a core.
-fn edges_text(alloc: Global, core: &Core) -> Result<String, AllocError> {
-    let mut line = String::new(alloc);
+/// Appends the edges of a core.
+fn put_edges(line: &mut String, alloc: Global, core: &Core) -> Result<(), Fail> {
     for k in 0..core.edge_count() {
         let edge = edge_of(core, k);
-        let (a, b) = (edge.source, edge.target);
-        let action = action_text(alloc, core, edge)?;
-        line.push_str(format!(in alloc; "{a}>{b} {action} ")?.as_str())?;
+        write!(line, "{}>{} ", edge.source, edge.target)?;
+        put_action(line, alloc, core, edge)?;
+        line.push_str(" ")?;
     }
-    Ok(line)
+    Ok(())
 }
 
 /// The procedures, owners and edges of a core.
-fn core_text(alloc: Global, core: &Core) -> Result<String, AllocError> {
+fn core_text(alloc: Global, core: &Core) -> Result<String, Fail> {
     let mut line = String::new(alloc);
     for p in 0..core.procs() {
         let q = core.proc_at(p);
-        let (a, b, c, d, e) = (q.inputs, q.outputs, q.dims, q.entry, q.exit);
-        line.push_str(format!(in alloc; "{a} {b} {c} {d} {e}; ")?.as_str())?;
+        write!(line, "{} {} {} ", q.inputs, q.outputs, q.dims)?;
+        write!(line, "{} {}; ", q.entry, q.exit)?;
     }
     line.push_str("| ")?;
     for point in 0..core.points() {
-        let owner = core.owner(point);
-        line.push_str(format!(in alloc; "{owner} ")?.as_str())?;
+        write!(line, "{} ", core.owner(point))?;
     }
-    let edges = edges_text(alloc, core)?;
-    line.push_str(format!(in alloc; "| {edges}")?.as_str())?;
+    line.push_str("| ")?;
+    put_edges(&mut line, alloc, core)?;
     Ok(line)
 }
 
 /// The point and the offset of each `fail`.
-fn fails_text(alloc: Global, built: &Built) -> Result<String, AllocError> {
+fn fails_text(alloc: Global, built: &Built) -> Result<String, Fail> {
     let mut line = String::new(alloc);
     for fail in &built.fails {
-        let (a, b) = (fail.point, fail.offset);
-        line.push_str(format!(in alloc; "{a}@{b} ")?.as_str())?;
+        write!(line, "{}@{} ", fail.point, fail.offset)?;
     }
     Ok(line)
 }
 
 /// The offset of each point.
-fn places(alloc: Global, checked: &Checked, built: &Built) -> Result<String, AllocError>
+fn places(alloc: Global, checked: &Checked, built: &Built) -> Result<String, Fail>
     requires { graph_of built.now.core ≡ core_from (program_of checked.now) }
 {
     law_places();
     let mut line = String::new(alloc);
     for point in 0..built.core.points() {
         let offset = offset_of(checked, point);
-        line.push_str(format!(in alloc; "{offset} ")?.as_str())?;
+        write!(line, "{offset} ")?;
     }
     Ok(line)
 }
 
-/// The core of an accepted text, its `fail`s and the offset of each point.
-fn shown(alloc: Global, text: &[u8]) -> Result<[String; 3], Fail> {
-    if text.len() > 1 << 20 {
-        return Err("the text is too long".into());
-    }
-    let list = tokens(alloc, text)?;
-    let tree = parse(alloc, text, &list)?;
-    let checked = check(alloc, &tree)?;
-    let built = core_of(alloc, &checked)?;
-    let core = core_text(alloc, &built.core)?;
-    let fails = fails_text(alloc, &built)?;
-    let offsets = places(alloc, &checked, &built)?;
-    Ok([core, fails, offsets])
+/// Ends the test where the core of a text, its `fail`s or the offsets of its points are others.
+fn expect_row(
+    rt: &impl Abort,
+    alloc: Global,
+    row: &Row,
+    checked: &Checked,
+    built: &Built,
+) -> Result<(), Fail>
+    requires { graph_of built.now.core ≡ core_from (program_of checked.now) }
+{
+    let given = core_text(alloc, &built.core)?;
+    assert_eq!(rt; given.as_str(), row.core);
+    let given = fails_text(alloc, built)?;
+    assert_eq!(rt; given.as_str(), row.fails);
+    let given = places(alloc, checked, built)?;
+    assert_eq!(rt; given.as_str(), row.places);
+    Ok(())
 }
 
 #[test]
 fn programs_have_cores(rt: HostRuntime) -> Result<(), Fail> {
     for row in &ROWS {
-        let [core, fails, offsets] = shown(rt.alloc(), row.text.as_bytes())?;
-        assert_eq!(&rt; core.as_str(), row.core);
-        assert_eq!(&rt; fails.as_str(), row.fails);
-        assert_eq!(&rt; offsets.as_str(), row.places);
+        let tree = tree_in(rt.alloc(), row.text.as_bytes())?;
+        let checked = check(rt.alloc(), &tree)?;
+        let built = core_of(rt.alloc(), &checked)?;
+        expect_row(&rt, rt.alloc(), row, &checked, &built)?;
     }
     Ok(())
 }
 
-/// A text with as many points as a program may have, and its core.
-fn many_points(alloc: Global) -> Result<(String, String), AllocError> {
-    let mut text = String::new(alloc);
-    let mut owners = String::new(alloc);
-    let mut edges = String::new(alloc);
-    for k in 0..4094 {
-        text.push_str(" skip;")?;
-        owners.push_str("0 ")?;
-        edges.push_str(format!(in alloc; "{}>{} skip ", k + 1, k + 2)?.as_str())?;
+/// The core of a text with as many points as a program may have, which skips all the time.
+fn points_core(alloc: Global) -> Result<String, Fail> {
+    let mut core = String::from_str(alloc, "0 0 0 0 4095; | 0 0 ")?;
+    for _ in 0..4094 {
+        core.push_str("0 ")?;
     }
-    let text = format!(in alloc; "begin{text} end")?;
-    let want = format!(in alloc; "0 0 0 0 4095; | 0 0 {owners}| 0>1 start() {edges}")?;
-    Ok((text, want))
+    core.push_str("| 0>1 start() ")?;
+    for k in 1..4095 {
+        write!(core, "{k}>{} skip ", k + 1)?;
+    }
+    Ok(core)
 }
 
-/// A text with as many procedures as a program may have, of which main calls the last one, and its core.
-fn many_procedures(alloc: Global) -> Result<(String, String), AllocError> {
+/// A text with as many procedures as a program may have, of which main calls the last one.
+fn procs_text(alloc: Global) -> Result<String, Fail> {
     let mut text = String::new(alloc);
-    let mut procs = String::new(alloc);
-    let mut owners = String::new(alloc);
-    let mut edges = String::new(alloc);
+    for p in 0..256 {
+        write!(text, "proc p{p}() returns () begin end ")?;
+    }
+    text.push_str("begin () = p255(); end")?;
+    Ok(text)
+}
+
+/// The core of that text.
+fn procs_core(alloc: Global) -> Result<String, Fail> {
+    let mut core = String::new(alloc);
     for p in 0..256_u32 {
-        let (entry, exit) = (2 * p, 2 * p + 1);
-        text.push_str(format!(in alloc; "proc p{p}() returns () begin end ")?.as_str())?;
-        procs.push_str(format!(in alloc; "0 0 0 {entry} {exit}; ")?.as_str())?;
-        owners.push_str(format!(in alloc; "{p} {p} ")?.as_str())?;
-        edges.push_str(format!(in alloc; "{entry}>{exit} start() ")?.as_str())?;
+        write!(core, "0 0 0 {} {}; ", 2 * p, 2 * p + 1)?;
     }
-    let text = format!(in alloc; "{text}begin () = p255(); end")?;
-    let want = format!(in alloc;
-        "{procs}0 0 0 512 514; | {owners}256 256 256 | {edges}512>513 start() 513>514 call255()() "
-    )?;
-    Ok((text, want))
+    core.push_str("0 0 0 512 514; | ")?;
+    for p in 0..256_u32 {
+        write!(core, "{p} {p} ")?;
+    }
+    core.push_str("256 256 256 | ")?;
+    for p in 0..256_u32 {
+        write!(core, "{}>{} start() ", 2 * p, 2 * p + 1)?;
+    }
+    core.push_str("512>513 start() 513>514 call255()() ")?;
+    Ok(core)
 }
 
-/// A text with a procedure of as many dimensions as one may have, 60 of them copies of its inputs, and its core.
-fn many_dimensions(alloc: Global) -> Result<(String, String), AllocError> {
-    let mut inputs = String::new(alloc);
-    let mut body = String::new(alloc);
-    let mut owners = String::new(alloc);
-    let mut pairs = String::new(alloc);
-    let mut edges = String::new(alloc);
-    for k in 0..60 {
-        let gap = if k == 0 { "" } else { " " };
-        let comma = if k == 0 { "" } else { ", " };
-        let (source, target, copy) = (k + 1, k + 2, k + 68);
-        inputs.push_str(format!(in alloc; "{comma}a{k}:int")?.as_str())?;
-        body.push_str(format!(in alloc; "a{k} = {k}; ")?.as_str())?;
-        owners.push_str("0 ")?;
-        pairs.push_str(format!(in alloc; "{gap}{copy} {k}")?.as_str())?;
-        edges.push_str(format!(in alloc; "{source}>{target} v{copy}={k} ")?.as_str())?;
+/// A text with a procedure of as many dimensions as one may have, 60 of them copies of its inputs.
+fn dims_text(alloc: Global) -> Result<String, Fail> {
+    let mut text = String::from_str(alloc, "proc f(a0:int")?;
+    for k in 1..60 {
+        write!(text, ", a{k}:int")?;
     }
-    let text = format!(in alloc;
-        "proc f({inputs}) returns (r:int, s:int) var t:int, u:int, v:int, w:int, x:int, y:int; begin {body}end begin end"
-    )?;
-    let want = format!(in alloc;
-        "60 2 128 0 61; 0 0 0 62 63; | 0 0 {owners}1 1 | 0>1 start({pairs}) {edges}62>63 start() "
-    )?;
-    Ok((text, want))
+    text.push_str(") returns (r:int, s:int) var t:int, u:int, v:int, w:int, x:int, y:int; begin ")?;
+    for k in 0..60 {
+        write!(text, "a{k} = {k}; ")?;
+    }
+    text.push_str("end begin end")?;
+    Ok(text)
+}
+
+/// The core of that text.
+fn dims_core(alloc: Global) -> Result<String, Fail> {
+    let mut core = String::from_str(alloc, "60 2 128 0 61; 0 0 0 62 63; | 0 0 ")?;
+    for _ in 0..60 {
+        core.push_str("0 ")?;
+    }
+    core.push_str("1 1 | 0>1 start(68 0")?;
+    for k in 1..60 {
+        write!(core, " {} {k}", k + 68)?;
+    }
+    core.push_str(") ")?;
+    for k in 0..60 {
+        write!(core, "{}>{} v{}={k} ", k + 1, k + 2, k + 68)?;
+    }
+    core.push_str("62>63 start() ")?;
+    Ok(core)
+}
+
+/// Ends the test where the core of a text is another one.
+fn expect_core(rt: &impl Abort, alloc: Global, text: &[u8], want: &str) -> Result<(), Fail> {
+    let core = core_in(alloc, text)?;
+    let given = core_text(alloc, &core)?;
+    assert_eq!(rt; given.as_str(), want);
+    Ok(())
 }
 
 #[test]
-fn large_programs_have_cores(rt: HostRuntime) -> Result<(), Fail> {
-    let alloc = rt.alloc();
-    let programs = [
-        many_points(alloc)?,
-        many_procedures(alloc)?,
-        many_dimensions(alloc)?,
-    ];
-    for (text, want) in &programs {
-        let core = core_in(alloc, text.as_bytes())?;
-        let given = core_text(alloc, &core)?;
-        assert_eq!(&rt; given.as_str(), want.as_str());
-    }
+fn many_points(rt: HostRuntime) -> Result<(), Fail> {
+    let text = long_text(rt.alloc(), ("begin", " skip;"), 4094, " end", ("", ""))?;
+    let core = points_core(rt.alloc())?;
+    expect_core(&rt, rt.alloc(), &text, core.as_str())?;
+    Ok(())
+}
+
+#[test]
+fn many_procedures(rt: HostRuntime) -> Result<(), Fail> {
+    let (text, core) = (procs_text(rt.alloc())?, procs_core(rt.alloc())?);
+    expect_core(&rt, rt.alloc(), text.as_bytes(), core.as_str())?;
+    Ok(())
+}
+
+#[test]
+fn many_dimensions(rt: HostRuntime) -> Result<(), Fail> {
+    let (text, core) = (dims_text(rt.alloc())?, dims_core(rt.alloc())?);
+    expect_core(&rt, rt.alloc(), text.as_bytes(), core.as_str())?;
     Ok(())
 }

@@ -7,7 +7,8 @@ ghost use Rattle.call_graph.specs.Tables.{tables_of};
 use crate::texts::core_in;
 use call_graph::{Graph, graph};
 use spl_core::Core;
-use std::alloc::{AllocError, Global};
+use std::alloc::Global;
+use std::fmt::Write;
 use std::test::Fail;
 
 /// Texts, the order of their points, and their cut points: entries, loop heads, exits of procedures that reach themselves.
@@ -24,18 +25,18 @@ const GRAPHS: [(&str, &str); 3] = [
 ];
 
 /// The order and the cut points.
-fn graph_text(alloc: Global, core: &Core, graph: &Graph) -> Result<String, AllocError>
+fn graph_text(alloc: Global, core: &Core, graph: &Graph) -> Result<String, Fail>
     requires { graph.now ≡ tables_of (graph_of core.now) }
 {
     let mut line = String::new(alloc);
     for point in graph.order() {
-        line.push_str(format!(in alloc; "{point} ")?.as_str())?;
+        write!(line, "{point} ")?;
     }
     line.push_str("| ")?;
     for at in 0..core.points() {
         let cut = graph.is_cut(at);
         if cut {
-            line.push_str(format!(in alloc; "{at} ")?.as_str())?;
+            write!(line, "{at} ")?;
         }
     }
     Ok(line)
@@ -43,7 +44,7 @@ fn graph_text(alloc: Global, core: &Core, graph: &Graph) -> Result<String, Alloc
 
 #[test]
 fn points_are_ordered(rt: HostRuntime) -> Result<(), Fail> {
-    for (text, want) in GRAPHS {
+    for &(text, want) in &GRAPHS {
         let core = core_in(rt.alloc(), text.as_bytes())?;
         let found = graph(rt.alloc(), &core)?;
         let given = graph_text(rt.alloc(), &core, &found)?;

@@ -3,7 +3,8 @@
 use crate::texts::core_in;
 use spl_core::Core;
 use spl_runs::{ChoiceFault, ReplayFault, Run, Seen, read_choices, replay};
-use std::alloc::{AllocError, Global};
+use std::alloc::Global;
+use std::fmt::Write;
 use std::test::Fail;
 
 /// Texts, choices, and the top frames of the run (the point, the number of frames, the values), one on each line; or why
@@ -98,23 +99,21 @@ const RUNS: [(&str, &str, &str); 19] = [
     ),
 ];
 
-/// A top frame as a line.
-fn top_line(alloc: Global, top: &Seen) -> Result<String, AllocError> {
-    let (point, depth) = (top.point, top.depth);
-    let mut line = format!(in alloc; "{point} {depth}")?;
+/// Appends a top frame as a line.
+fn put_top(text: &mut String, top: &Seen) -> Result<(), Fail> {
+    write!(text, "{} {}", top.point, top.depth)?;
     for x in &top.values {
-        line.push_str(format!(in alloc; " {x}")?.as_str())?;
+        write!(text, " {x}")?;
     }
-    line.push_str("\n")?;
-    Ok(line)
+    text.push_str("\n")?;
+    Ok(())
 }
 
 /// The top frames of a run.
-fn run_text(alloc: Global, run: &Run) -> Result<String, AllocError> {
+fn run_text(alloc: Global, run: &Run) -> Result<String, Fail> {
     let mut text = String::new(alloc);
     for k in 0..run.len() {
-        let line = top_line(alloc, run.at(k))?;
-        text.push_str(line.as_str())?;
+        put_top(&mut text, run.at(k))?;
     }
     Ok(text)
 }
@@ -130,7 +129,7 @@ fn answer(alloc: Global, core: &Core, choices: &str) -> Result<String, Fail> {
         return Err("there are few steps".into());
     }
     match replay(alloc, core, &choices) {
-        Ok(run) => Ok(run_text(alloc, &run)?),
+        Ok(run) => run_text(alloc, &run),
         Err(ReplayFault::NotARun(k)) => Ok(format!(in alloc; "not a run {k}")?),
         Err(ReplayFault::Wide(k)) => Ok(format!(in alloc; "wide {k}")?),
         Err(ReplayFault::NoMemory) => Err("there is memory".into()),
@@ -139,7 +138,7 @@ fn answer(alloc: Global, core: &Core, choices: &str) -> Result<String, Fail> {
 
 #[test]
 fn choices_give_runs(rt: HostRuntime) -> Result<(), Fail> {
-    for (text, choices, want) in RUNS {
+    for &(text, choices, want) in &RUNS {
         let core = core_in(rt.alloc(), text.as_bytes())?;
         let given = answer(rt.alloc(), &core, choices)?;
         assert_eq!(&rt; given.as_str(), want, "of {text}");

@@ -1,4 +1,4 @@
-use Rattle.std.proofs.Common.{◌≡◌, ℕ, List, [], ◌∷◌, codes, refl, sym, ap, ◌∙◌}
+use Rattle.std.proofs.Common.{◌≡◌, ℕ, List, codes, refl, sym, ap, ◌∙◌}
 use Rattle.spl_text.specs.Pieces.{piece_at, Cut}
 use Rattle.spl_text.specs.Pieces.Pieces.{none, gap, token}
 use Rattle.spl_text.specs.declared.token.Token.{Token}
