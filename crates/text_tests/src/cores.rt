@@ -319,7 +319,7 @@ fn procs_text(alloc: Global) -> Result<String, Fail> {
     Ok(text)
 }
 
-/// Its core.
+/// The core of that text.
 fn procs_core(alloc: Global) -> Result<String, Fail> {
     let mut core = String::new(alloc);
     for p in 0..256_u32 {
@@ -351,7 +351,7 @@ fn dims_text(alloc: Global) -> Result<String, Fail> {
     Ok(text)
 }
 
-/// Its core.
+/// The core of that text.
 fn dims_core(alloc: Global) -> Result<String, Fail> {
     let mut core = String::from_str(alloc, "60 2 128 0 61; 0 0 0 62 63; | 0 0 ")?;
     for _ in 0..60 {

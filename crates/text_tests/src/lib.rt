@@ -11,6 +11,8 @@ mod edits;
 #[cfg(test)]
 mod graphs;
 #[cfg(test)]
+mod lexes;
+#[cfg(test)]
 mod parses;
 #[cfg(test)]
 mod prints;
@@ -18,5 +20,3 @@ mod prints;
 mod runs;
 #[cfg(test)]
 mod texts;
-#[cfg(test)]
-mod token_texts;
