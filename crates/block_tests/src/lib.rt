@@ -12,8 +12,6 @@ mod lattice;
 #[cfg(test)]
 mod matrices;
 #[cfg(test)]
-mod random;
-#[cfg(test)]
 mod seeded;
 #[cfg(test)]
 mod values;

@@ -5,12 +5,12 @@ ghost use Rattle.oct_def.specs.Table.{at};
 
 use crate::lattice::{Call, called};
 use crate::matrices::constrain;
-use crate::random::Random;
 use crate::values::{expect_marks, value_with};
 use dec_oct::DecOct;
 use half_matrix::{HalfBuf, HalfMatrix};
 use minplus_lanes::RowCount;
 use oct_def::NONE;
+use seeded_numbers::Random;
 use std::alloc::Global;
 use std::process::Abort;
 use std::test::Fail;

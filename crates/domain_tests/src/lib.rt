@@ -14,8 +14,6 @@ mod counting;
 #[cfg(test)]
 mod programs;
 #[cfg(test)]
-mod random;
-#[cfg(test)]
 mod rounds;
 #[cfg(test)]
 mod rows;

@@ -1,7 +1,7 @@
 //! Programs from a seed.
 ghost use Rattle.std.specs.Prelude.{◌<◌};
 
-use crate::random::Random;
+use seeded_numbers::Random;
 use std::alloc::{AllocError, Global};
 
 /// The variables of main, and of the procedure, whose first two are inputs and whose next two are outputs.

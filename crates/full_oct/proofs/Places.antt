@@ -1,14 +1,13 @@
 -- Places of a full matrix: rows follow each other, and each place is filled once.
 use Rattle.std.proofs.Common.{◌≡◌, ℕ, zero, suc, ◌+◌, ◌*◌, ◌/◌, ◌%◌, ◌<◌, ◌≤◌, ◌⊎◌, inl, inr, List, [], ◌∷◌, ◌++◌, length, get_or, refl, sym, ap, ◌∙◌, subst, arith}
 use Rattle.std.specs.Prelude.{ℤ, pos}
-use Rattle.std.proofs.Common.{length-append, add-one, Bool, true, false, ◌||◌}
+use Rattle.std.proofs.Common.{length-append, add-one}
 use Rattle.std.proofs.lemmas.Nat.{mul-add-lt, div-mul-add, mod-mul-add, div-add-mod'}
 use Rattle.std.proofs.Math.Nat.{mul-le-mul_left, div-lt_iff_lt-mul, mod-lt}
 use Rattle.std.proofs.lemmas.List.{ext_get_or, get_or_push, get_or_read, get_or_append_left}
 use Rattle.oct_def.specs.Bound.{bound_of}
-use Rattle.oct_def.specs.Table.{Matrix, at, some_index}
+use Rattle.oct_def.specs.Table.{Matrix, at}
 use Rattle.oct_def.specs.Tight.{pair_step, pair_steps}
-use Rattle.oct_def.proofs.Indices.{some_index-each}
 use Rattle.oct_def.specs.Matrix.{IsSquare}
 use Rattle.oct_def.proofs.Tables.{length-table, at-table, square-table}
 use Rattle.oct_def.proofs.WordBounds.{same_word}
@@ -75,19 +74,6 @@ filled_at size P words h e i j p q =
     let lt : i * size + j < length words = omega (arith, mul-add-lt i size j size p q) in
     subst (λ a. P a j (get_or words (i * size + j) (pos 0))) (div-mul-add i size j q)
     (subst (λ b. P ((i * size + j) / size) b (get_or words (i * size + j) (pos 0))) (mod-mul-add i size j q) (h (i * size + j) lt))
-
--- ---- some index below n, found from 0 upward
-
-pub some_index-more : (n : ℕ) (test : ℕ → Bool) → some_index n test ≡ false → test n ≡ false → some_index (n + 1) test ≡ false
-unfolding some_index
-some_index-more n test h e = rw add-one (ap (λ b. b || some_index n test) e ∙ h)
-
-pub some_index-found : (n : ℕ) (test : ℕ → Bool) (k : ℕ) → k < n → test k ≡ true → some_index n test ≡ true
-some_index-found n test k lt e = by (some_index n test) refl
-  where
-    by : (b : Bool) → some_index n test ≡ b → b ≡ true
-    by true f = refl
-    by false f = let no = some_index-each n test f k lt in cc
 
 -- one step more
 pub pair_steps-more : (n : ℕ) (m : Matrix) → pair_step n (pair_steps n m) ≡ pair_steps (n + 1) m

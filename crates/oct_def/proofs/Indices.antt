@@ -1,5 +1,5 @@
 -- Signed dimensions: a dimension and its opposite, and their values in a state.
-use Rattle.std.proofs.Common.{◌≡◌, ℕ, ◌+◌, ◌-◌, ◌*◌, ◌/◌, ◌%◌, ◌<◌, ◌⊎◌, inl, inr, Bool, true, false, ◌||◌, cond, eqb, List, refl, ap, ◌∙◌, arith, zero, suc}
+use Rattle.std.proofs.Common.{◌≡◌, ℕ, ◌+◌, ◌-◌, ◌*◌, ◌/◌, ◌%◌, ◌<◌, ◌⊎◌, inl, inr, Bool, true, false, ◌||◌, cond, eqb, List, refl, ap, ◌∙◌, arith, add-one, zero, suc}
 use Rattle.std.specs.Prelude.{ℤ, ◌+ℤ◌, ◌-ℤ◌, neg_ℤ}
 use Rattle.std.proofs.lemmas.Int.{ints}
 use Rattle.std.specs.Prelude.{bit_xor}
@@ -67,6 +67,17 @@ some_index-each (suc n) test e k h = by (test n) refl e (λ f lt. some_index-eac
     by : (b : Bool) → test n ≡ b → (b || some_index n test) ≡ false → (some_index n test ≡ false → k < n → test k ≡ false) → test k ≡ false
     by true f g below = cc
     by false f g below = last f (below g) (grind arith)
+
+pub some_index-more : (n : ℕ) (test : ℕ → Bool) → some_index n test ≡ false → test n ≡ false → some_index (n + 1) test ≡ false
+unfolding some_index
+some_index-more n test h e = rw add-one (ap (λ b. b || some_index n test) e ∙ h)
+
+pub some_index-found : (n : ℕ) (test : ℕ → Bool) (k : ℕ) → k < n → test k ≡ true → some_index n test ≡ true
+some_index-found n test k lt e = by (some_index n test) refl
+  where
+    by : (b : Bool) → some_index n test ≡ b → b ≡ true
+    by true f = refl
+    by false f = let no = some_index-each n test f k lt in cc
 
 -- ---- the opposite by its lowest bit
 

@@ -6,7 +6,7 @@ use Rattle.oct_def.specs.Bound.{bound_of}
 use Rattle.oct_def.specs.Table.{some_index}
 use Rattle.oct_def.specs.Tight.{crossing, has_crossing}
 use Rattle.oct_def.proofs.Closings.{crossing_of}
-use Rattle.full_oct.proofs.Places.{some_index-more, some_index-found}
+use Rattle.oct_def.proofs.Indices.{some_index-more, some_index-found}
 use Rattle.full_oct.proofs.matrix.FullMatrix.has_crossing.Goals as goal
 
 -- a word that the code passes on

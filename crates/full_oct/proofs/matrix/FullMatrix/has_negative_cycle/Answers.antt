@@ -5,7 +5,7 @@ use Rattle.std.proofs.lemmas.Int.{to_z-of_z}
 use Rattle.oct_def.specs.Bound.{is_negative, bound_of}
 use Rattle.oct_def.specs.Table.{some_index, at}
 use Rattle.oct_def.specs.Tight.{negative_cycle, has_negative_cycle}
-use Rattle.full_oct.proofs.Places.{some_index-more, some_index-found}
+use Rattle.oct_def.proofs.Indices.{some_index-more, some_index-found}
 use Rattle.full_oct.proofs.matrix.FullMatrix.has_negative_cycle.Goals as goal
 
 pub returns : goal.returns
