@@ -27,6 +27,7 @@ impl Random {
     }
 
     /// The next number, below n: the remainder by n of the seed's upper 31 bits.
+    #[tactic(auto, unfolding(crate::specs::Random::next_seed))]
     pub fn below(&mut self, n: u32) -> u32
         requires { 0 < n }
         ensures seed { self.new ≡ next_seed self.old }
