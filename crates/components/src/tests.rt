@@ -26,7 +26,7 @@ fn expect_variables(rt: &impl Abort, vars: &[u32])
 
 #[test]
 fn greatest_sizes(rt: HostRuntime) -> Result<(), Fail> {
-    for (merges, greatest) in ROWS {
+    for &(merges, greatest) in &ROWS {
         let mut blocks = Partition::new(rt.alloc());
         for b in 0..merges.len() {
             expect_variables(&rt, merges[b]);

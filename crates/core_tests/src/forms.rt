@@ -76,7 +76,7 @@ fn bounds_of_sums(rt: HostRuntime) -> Result<(), Fail> {
             &[bound(1, 0, 2305843009213693952)],
         ),
     ];
-    for (name, second, k, ranges, wanted) in cases {
+    for &(name, second, k, ranges, wanted) in &cases {
         let form = sum_less(alloc, second, k, &ranges)?;
         match form_constraints(alloc, &form, &ranges)? {
             Bounds::Nothing => assert!(rt; false, "{name}"),

@@ -34,7 +34,7 @@ const CLAMPS: [(i128, i64); 15] = [
 
 #[test]
 fn clamps(rt: HostRuntime) {
-    for (x, word) in CLAMPS {
+    for &(x, word) in &CLAMPS {
         assert_eq!(rt; clamp(x), word, "of {x}");
     }
 }

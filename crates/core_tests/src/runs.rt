@@ -50,7 +50,7 @@ fn faults_of_texts(rt: HostRuntime) {
         ("170141183460469231731687303715884105728", 0),
         ("0\n-170141183460469231731687303715884105729", 2),
     ];
-    for (text, at) in cases {
+    for &(text, at) in &cases {
         assert_eq!(rt; fault_of(rt.alloc(), text), Some(at), "at {text}");
     }
 }
@@ -94,7 +94,7 @@ fn choices_of_texts(rt: HostRuntime) -> Result<(), Fail> {
             "170141183460469231731687303715884105727 ",
         ),
     ];
-    for (text, want) in cases {
+    for &(text, want) in &cases {
         let all = shown(rt.alloc(), text)?;
         assert!(rt; all.as_str() == want, "at {text}");
     }
@@ -144,7 +144,7 @@ fn replays(rt: HostRuntime) -> Result<(), Fail> {
             "wide 4",
         ),
     ];
-    for (text, want) in cases {
+    for &(text, want) in &cases {
         let all = followed(alloc, &core, text)?;
         assert!(rt; all.as_str() == want, "at {text}");
     }
@@ -179,7 +179,7 @@ fn texts_of_runs(rt: HostRuntime) -> Result<(), Fail> {
             b"4 1 -5 0\n5 1 -5 0\n0 2 -5 9 12\n1 2 -5 9 -5\n2 2 -5 9 -4\n3 2 -5 -4 -4\n6 1 -5 -4\n".as_slice(),
         ),
     ];
-    for (choices, want) in cases {
+    for &(choices, want) in &cases {
         let text = text_of(alloc, &core, choices)?;
         assert_eq!(rt; text.as_slice(), want, "with {choices}");
     }

@@ -20,7 +20,7 @@ fn rows_of(alloc: Global, groups: u32) -> Result<u64, Fail> {
 /// Forty groups are 120 variables: their rows are below 100000, and grow with the number of groups.
 #[test]
 fn generated_programs_relax_rows_in_proportion(rt: HostRuntime) -> Result<(), Fail> {
-    for (groups, want) in ROWS {
+    for &(groups, want) in &ROWS {
         let first = rows_of(rt.alloc(), groups)?;
         let second = rows_of(rt.alloc(), groups)?;
         assert_eq!(&rt; first, want, "{groups} groups");
