@@ -34,7 +34,7 @@ fn told(alloc: Global, answer: &Result<Command, WordsFault>) -> Result<String, F
 }
 
 fn tell_each(rt: &impl Abort, alloc: Global, cases: &[(&str, &str)]) -> Result<(), Fail> {
-    for &(line, answer) in &cases {
+    for (line, answer) in cases {
         let words = words_of(alloc, line)?;
         let got = read_words(alloc, words.as_slice());
         assert_eq!(rt; told(alloc, &got)?.as_str(), *answer, "at {line}");
