@@ -6,8 +6,9 @@
 Each input is a text or a list of words, with the streams and the folder that it is given in: random bytes and tokens,
 programs of examples/ with a byte changed, small random programs, words of no form, folders, files that can't be read or
 vanish, an output that is closed or full. An answer is one of the program's own where its status is 0 to 5, standard error
-holds the one line of that status (none for 0 and 1), and it came within a second and 200 MB. Works on all processors for
-SECONDS (60 by default) and prints how many inputs of each kind there were, by status. Nothing here is part of the tests.
+holds the one line of that status (none for 0 and 1), and it took at most a second of a processor and 200 MB, and ended
+within twenty seconds however busy the machine is. Works on all processors for SECONDS (60 by default) and prints how many
+inputs of each kind there were, by status. Nothing here is part of the tests.
 """
 import collections
 import contextlib
@@ -184,7 +185,7 @@ def streams(state, out, err):
 
 
 def run(program, words, state):
-    """The status, standard error, the seconds and the bytes of one run in the current folder."""
+    """The status, standard error, the seconds of a processor and the bytes of one run in the current folder."""
     actions = streams(state, "out", "err")
     ends = []
     if state == "broken pipe":
@@ -192,7 +193,6 @@ def run(program, words, state):
         os.close(reader)
         actions.append((os.POSIX_SPAWN_DUP2, writer, 1))
         ends.append(writer)
-    began = time.perf_counter()
     child = os.posix_spawn(program, [program, *words], os.environ, file_actions=actions)
     for end in ends:
         os.close(end)
@@ -207,7 +207,7 @@ def run(program, words, state):
         _, status, used = os.wait4(child, 0)
     signal.setitimer(signal.ITIMER_REAL, 0)
     said = b"" if state == "closed error" else pathlib.Path("err").read_bytes()
-    return os.waitstatus_to_exitcode(status), said, time.perf_counter() - began, used.ru_maxrss << 10
+    return os.waitstatus_to_exitcode(status), said, used.ru_utime + used.ru_stime, used.ru_maxrss << 10
 
 
 def fault_of(state, status, said, seconds, size):
