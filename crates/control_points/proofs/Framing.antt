@@ -1,5 +1,5 @@
 -- What names stand for in a procedure of an accepted program.
-use Rattle.std.proofs.Common.{◌≡◌, ℕ, ◌+◌, ◌<◌, ◌≤◌, Bool, true, false, ◌&&◌, ◌||◌, ◌==◌, if◌then◌else◌, List, [], ◌∷◌, ◌++◌, length, map, get_or, filter, Option, Some, None, is_some, refl, sym, ap, ◌∙◌, arith, length-append, position, ◌⊎◌, inl, inr}
+use Rattle.std.proofs.Common.{◌≡◌, ℕ, ◌+◌, ◌<◌, ◌≤◌, Bool, true, false, ◌&&◌, ◌||◌, ◌==◌, if◌then◌else◌, List, [], ◌∷◌, ◌++◌, length, get_or, filter, Option, Some, None, is_some, refl, sym, ap, ◌∙◌, arith, length-append, position, ◌⊎◌, inl, inr}
 use Rattle.std.specs.Str.{bytes_eq}
 use Rattle.std.proofs.lemmas.Bool.{eqb-true}
 use Rattle.std.proofs.lemmas.List.{length-map, map-append}
@@ -7,7 +7,7 @@ use Rattle.std.proofs.Math.ListN.{get_or-append}
 use Rattle.std.proofs.lemmas.List.Folds.{list_any_at}
 use Rattle.spl_tree.specs.Program.{Declared, ProcMeaning}
 use Rattle.spl_types.specs.Checks.{is_among, declared_names, proc_named, has_counts, Procedure, all_decls, scope_of}
-use Rattle.spl_types.specs.Dimensions.{targets_in, input_name, copied, dimensions_of}
+use Rattle.spl_types.specs.Dimensions.{targets_in, copied, dimensions_of}
 use Rattle.spl_types.specs.Tables.{proc_names}
 use Rattle.spl_types.proofs.Accepting.{dims_count}
 use Rattle.spl_types.proofs.Numbering.{no_proc as no_meaning}

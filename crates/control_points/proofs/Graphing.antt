@@ -5,9 +5,9 @@ use Rattle.std.proofs.lemmas.List.{length-map, length-replicate, get_or-replicat
 use Rattle.std.proofs.lemmas.List.Elements.{All-nil, All-cons, All-append, All-replicate, All-from_get_or}
 use Rattle.std.proofs.Math.ListN.{get_or-append}
 use Rattle.std.proofs.Math.Seq.{get_or-append_seam}
-use Rattle.spl_tree.specs.Program.{Declared, ProcMeaning, Program, StmtTree, skip, halt, fail, assume, assign, call, if_then, if_else, while_do, BlockTree, empty, more}
+use Rattle.spl_tree.specs.Program.{Declared, ProcMeaning, Program}
 use Rattle.spl_types.specs.declared.fault.CheckRule.TheVariants.{DuplicateName, TooManyProcedures}
-use Rattle.spl_types.specs.Checks.{Check, check, checks, is_among, most_procedures, Met, with_point, met_before, met_in, met_by, met_by_end, plain_names, decl_checks, point_check, block_checks, scope_of, declared_names, Procedure, procedure_of, main_procedure, all_decls, procedure_checks, proc_checks, points_after}
+use Rattle.spl_types.specs.Checks.{Check, check, checks, is_among, most_procedures, Met, with_point, met_before, met_by_end, decl_checks, point_check, block_checks, scope_of, declared_names, Procedure, procedure_of, main_procedure, all_decls, procedure_checks, proc_checks, points_after}
 use Rattle.spl_types.specs.Dimensions.{targets_in, copied, dimensions_of, procedures, dimensions}
 use Rattle.spl_types.specs.Accepted.{KeepsRules}
 use Rattle.spl_types.specs.Faults.{Kept}

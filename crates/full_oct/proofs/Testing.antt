@@ -1,5 +1,5 @@
 -- Tests by the forms of differences.
-use Rattle.std.proofs.Common.{◌≡◌, ℕ, ◌*◌, List, length, Bool, true, Option, Some, None, refl, sym, ap, subst, ◌∙◌}
+use Rattle.std.proofs.Common.{◌≡◌, ℕ, ◌*◌, List, length, Bool, true, Option, Some, None, sym, ap, subst, ◌∙◌}
 use Rattle.std.specs.Option.{option_and_then}
 use Rattle.oct_def.specs.Table.{Matrix}
 use Rattle.oct_def.specs.Matrix.{IsEvenMatrix}
@@ -12,7 +12,6 @@ use Rattle.spl_core.specs.Condition.{Compare, asked}
 use Rattle.interval_form.specs.declared.interval.Interval.{Interval}
 use Rattle.interval_form.specs.Interval.{ranges_of}
 use Rattle.interval_form.specs.Form.{Form}
-use Rattle.interval_form.specs.Linear.{difference_form}
 use Rattle.interval_form.specs.FormBounds.{bounded}
 use Rattle.interval_form.proofs.Bounding.{length-ranges_of}
 use Rattle.transfer_def.specs.Test.{restrict_at_most, restrict_below, at_most_value, below_value, compare_value, test_value}

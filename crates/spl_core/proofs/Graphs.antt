@@ -1,5 +1,5 @@
 -- Parts are those of a core exactly where their numbers fit and they stand for a graph with a core's facts.
-use Rattle.std.proofs.Common.{◌≡◌, ◌≢◌, ℕ, suc, ◌+◌, ◌%◌, ◌<◌, ◌≤◌, List, [], ◌∷◌, length, map, get_or, take, drop, refl, sym, ap, ◌∙◌, subst, arith, length-drop}
+use Rattle.std.proofs.Common.{◌≡◌, ℕ, suc, ◌%◌, ◌<◌, List, [], ◌∷◌, length, map, get_or, drop, sym, ap, ◌∙◌, subst, arith, length-drop}
 use Rattle.std.specs.List.{All}
 use Rattle.std.proofs.lemmas.List.{length-map, length-take}
 use Rattle.std.proofs.lemmas.List.Elements.{All-nil, All-cons, All-head}
@@ -10,9 +10,9 @@ use Rattle.spl_core.specs.declared.parts.Action.{Action}
 use Rattle.spl_core.specs.declared.parts.Action.TheVariants as action
 use Rattle.spl_core.specs.declared.parts.Proc.{Proc}
 use Rattle.spl_core.specs.Parts.{Parts, no_edge, proc_at, edge_at, owner_of, span_dims}
-use Rattle.spl_core.specs.Facts.{IsWritable, SpanFits, CallFits, ActionFits, EdgeFits, IsCall, IsCore}
-use Rattle.spl_core.specs.Graph.{Copy, Arc, pairs_in, no_arc, arc_at, move_of, arc_of, graph_of}
-use Rattle.spl_core.specs.GraphFacts.{CallMoveFits, CopyFits, MoveFits, ArcFits, IsCallMove, IsGraph, SpanIsIn, ActionIsIn, NumbersFit, CoresAreGraphs, GraphsAreCores}
+use Rattle.spl_core.specs.Facts.{IsWritable, CallFits, ActionFits, EdgeFits, IsCall}
+use Rattle.spl_core.specs.Graph.{Copy, Arc, pairs_in, arc_at, move_of, arc_of, graph_of}
+use Rattle.spl_core.specs.GraphFacts.{CallMoveFits, CopyFits, MoveFits, ArcFits, IsCallMove, SpanIsIn, ActionIsIn, CoresAreGraphs, GraphsAreCores}
 
 -- ---- edges of the parts and of their graph
 

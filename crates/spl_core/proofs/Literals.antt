@@ -10,9 +10,9 @@ use Rattle.spl_core.specs.declared.parts.CoreExpr.TheVariants as expr
 use Rattle.spl_core.specs.declared.parts.CoreCond.{CoreCond}
 use Rattle.spl_core.specs.declared.parts.CoreCond.TheVariants as cond
 use Rattle.spl_core.specs.Parts.{Parts}
-use Rattle.spl_core.specs.Expression.{Expression, Number, IsLimited}
-use Rattle.spl_core.specs.Condition.{Condition, Random, IsConditionLimited}
-use Rattle.spl_core.specs.Facts.{Each, ExprFits, IsCore}
+use Rattle.spl_core.specs.Expression.{Expression, IsLimited}
+use Rattle.spl_core.specs.Condition.{Condition, IsConditionLimited}
+use Rattle.spl_core.specs.Facts.{ExprFits}
 use Rattle.spl_core.specs.Graph.{expr_at, expr_over, exprs_after, exprs_in, cond_at, cond_over, conds_after, conds_in, move_of, arc_of, graph_of}
 use Rattle.spl_core.specs.Laws.{MoveIsLimited, LiteralsAreLimited}
 

@@ -1,5 +1,5 @@
 -- The first offset that passes a test.
-use Rattle.std.proofs.Common.{◌≡◌, ℕ, suc, ◌+◌, ◌-◌, ◌<◌, ◌≤◌, Bool, true, false, cond, Some, zero, arith, refl}
+use Rattle.std.proofs.Common.{◌≡◌, ℕ, suc, ◌+◌, ◌<◌, ◌≤◌, Bool, true, false, cond, Some, zero, arith, refl}
 use Rattle.std.specs.List.{find, range_with_len}
 
 -- what is found is in the range, and passes
