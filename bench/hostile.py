@@ -8,7 +8,8 @@ programs of examples/ with a byte changed, small random programs, words of no fo
 vanish, an output that is closed or full. An answer is one of the program's own where its status is 0 to 5, standard error
 holds the one line of that status (none for 0 and 1), and it took at most a second of a processor and 200 MB, and ended
 within twenty seconds however busy the machine is. Works on all processors for SECONDS (60 by default) and prints how many
-inputs of each kind there were, by status. Nothing here is part of the tests.
+inputs of each kind there were, by status, and how long they took by the processor and on the clock. Nothing here is part
+of the tests.
 """
 import collections
 import contextlib
@@ -185,7 +186,7 @@ def streams(state, out, err):
 
 
 def run(program, words, state):
-    """The status, standard error, the seconds of a processor and the bytes of one run in the current folder."""
+    """The status, standard error, the seconds of a processor and on the clock, and the bytes of one run in this folder."""
     actions = streams(state, "out", "err")
     ends = []
     if state == "broken pipe":
@@ -193,6 +194,7 @@ def run(program, words, state):
         os.close(reader)
         actions.append((os.POSIX_SPAWN_DUP2, writer, 1))
         ends.append(writer)
+    began = time.perf_counter()
     child = os.posix_spawn(program, [program, *words], os.environ, file_actions=actions)
     for end in ends:
         os.close(end)
@@ -207,7 +209,8 @@ def run(program, words, state):
         _, status, used = os.wait4(child, 0)
     signal.setitimer(signal.ITIMER_REAL, 0)
     said = b"" if state == "closed error" else pathlib.Path("err").read_bytes()
-    return os.waitstatus_to_exitcode(status), said, used.ru_utime + used.ru_stime, used.ru_maxrss << 10
+    waited = time.perf_counter() - began
+    return os.waitstatus_to_exitcode(status), said, used.ru_utime + used.ru_stime, waited, used.ru_maxrss << 10
 
 
 def fault_of(state, status, said, seconds, size):
@@ -235,7 +238,7 @@ def work(program, until, seed, results):
     rng = random.Random(seed)
     gallery = [path.read_bytes() for path in sorted(EXAMPLES.glob("*.spl"))]
     signal.signal(signal.SIGALRM, raise_timeout)
-    counts, slowest, largest = collections.Counter(), 0.0, 0
+    counts, slowest, longest, late, largest = collections.Counter(), 0.0, 0.0, 0, 0
     with tempfile.TemporaryDirectory() as folder:
         os.chdir(folder)
         os.mkdir("folder")
@@ -248,15 +251,16 @@ def work(program, until, seed, results):
                 pathlib.Path("vanishing").write_bytes(text)
             if "choices" in words:
                 pathlib.Path("choices").write_bytes(choices_of(rng))
-            status, said, seconds, size = run(program, words, state)
+            status, said, seconds, waited, size = run(program, words, state)
             wrong = fault_of(state, status, said, seconds, size)
             if wrong:
                 results.put((wrong, kind, state, words, text, pathlib.Path("choices").read_bytes() if "choices" in words else b""))
                 break
             counts[kind, status] += 1
-            slowest, largest = max(slowest, seconds), max(largest, size)
+            slowest, longest, largest = max(slowest, seconds), max(longest, waited), max(largest, size)
+            late += waited > MOST_SECONDS
         os.chdir("/")
-    results.put((counts, slowest, largest))
+    results.put((counts, slowest, longest, late, largest))
 
 
 def main():
@@ -274,12 +278,14 @@ def main():
     ]
     for worker in workers:
         worker.start()
-    totals, slowest, largest, faults, left = collections.Counter(), 0.0, 0, [], len(workers)
+    totals, slowest, longest, late, largest = collections.Counter(), 0.0, 0.0, 0, 0
+    faults, left = [], len(workers)
     while left:
         answer = results.get()
-        if len(answer) == 3:
+        if isinstance(answer[0], collections.Counter):
             totals.update(answer[0])
-            slowest, largest = max(slowest, answer[1]), max(largest, answer[2])
+            slowest, longest, largest = max(slowest, answer[1]), max(longest, answer[2]), max(largest, answer[4])
+            late += answer[3]
             left -= 1
         else:
             faults.append(answer)
@@ -287,7 +293,8 @@ def main():
         worker.join()
     for (kind, status), count in sorted(totals.items()):
         print(f"{kind:16} status {status}  {count:8}")
-    print(f"{sum(totals.values())} inputs, the slowest {slowest:.3f} s, the largest {largest / (1 << 20):.0f} MB")
+    print(f"{sum(totals.values())} inputs, the slowest {slowest:.3f} s of a processor, the largest {largest / (1 << 20):.0f} MB")
+    print(f"on the clock, the machine's other work with it: the longest {longest:.3f} s, {late} over a second")
     for wrong, kind, state, words, text, choices in faults:
         print(f"WRONG: {wrong}: {kind}, output {state}, words {words}\n{text!r}\n{choices!r}")
     sys.exit(1 if faults else 0)
