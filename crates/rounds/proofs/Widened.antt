@@ -142,6 +142,6 @@ is_widening = record {
 }
 
 -- its rank at Bottom is within the height of a cut point
-pub entries-bottom : (n : ℕ) → entries (bottom_value n) ≤ (2 * n) * (2 * n) + 2
-unfolding bottom_value
-entries-bottom n = omega arith
+pub rank-bottom : (n : ℕ) → is_widening.rank (bottom_value n) ≤ (2 * n) * (2 * n) + 2
+unfolding is_widening bottom_value
+rank-bottom n = omega arith
