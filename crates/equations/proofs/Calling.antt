@@ -1,5 +1,5 @@
 -- Calls and returns in the code.
-use Rattle.std.proofs.Common.{◌≡◌, ℕ, ◌+◌, ◌<◌, ◌≤◌, List, length, get_or, sym, ap, subst, arith, ◌∙◌}
+use Rattle.std.proofs.Common.{◌≡◌, ℕ, ◌+◌, ◌<◌, ◌≤◌, List, length, sym, ap, subst, arith, ◌∙◌}
 use Rattle.oct_def.specs.Octagon.{Octagon}
 use Rattle.spl_core.specs.declared.parts.Action.{Action}
 use Rattle.spl_core.specs.declared.parts.Action.TheVariants as action

@@ -1,21 +1,18 @@
 -- The equations of a graph are a system for the rounds, and the tables of a core hold what the system says.
-use Rattle.std.proofs.Common.{◌≡◌, ℕ, ◌+◌, ◌*◌, ◌<◌, ◌≤◌, false, [], length, get_or, sym, subst, ap, ◌∙◌, arith, mul-le-mul}
-use Rattle.std.specs.List.{All, Contains, range_with_len}
+use Rattle.std.proofs.Common.{◌≡◌, ℕ, ◌*◌, ◌<◌, ◌≤◌, false, [], length, get_or, ap, ◌∙◌, arith, mul-le-mul}
+use Rattle.std.specs.List.{range_with_len}
 use Rattle.std.proofs.lemmas.List.{length-map}
 use Rattle.std.proofs.lemmas.List.FromFn.{length-range_with_len, get_or-map-range_with_len}
-use Rattle.oct_def.specs.Octagon.{Octagon, IsOctagon}
 use Rattle.spl_core.specs.Parts.{Parts, no_proc}
 use Rattle.spl_core.specs.Graph.{Graph, owner_of, dims_at, graph_of}
 use Rattle.call_graph.specs.Order.{order, is_cut}
 use Rattle.call_graph.specs.Tables.{Tables, tables_of}
-use Rattle.equations.specs.Sources.{reads_at, readers}
+use Rattle.equations.specs.Sources.{readers}
 use Rattle.equations.specs.Table.{Table, table_of}
-use Rattle.equations.specs.Equations.{equation}
 use Rattle.equations.proofs.Facts.{Known}
 use Rattle.equations.proofs.Cover.{dims-equation}
 use Rattle.equations.proofs.Sourced.{equation-alike, equation-octagon}
-use Rattle.equations.proofs.Readers.{reader_told, readers_within}
-use Rattle.rounds.specs.System.{AreSized, KeepsSizes, IsEquation, IsSystem, AreReaders, most_delay}
+use Rattle.rounds.specs.System.{KeepsSizes, IsEquation, IsSystem}
 use Rattle.rounds.specs.Ends.{AreSolved}
 use Rattle.rounds.proofs.Counted.{counts_fit}
 use Rattle.rounds.proofs.Sized.{are_solved}

@@ -1,5 +1,5 @@
 -- What the ascent of a graph leaves is inductive, and what the analysis finds holds of every run.
-use Rattle.std.proofs.Common.{◌≡◌, ◌≢◌, ⊎_elim, ℕ, suc, ◌<◌, Bool, List, [], ◌∷◌, length, get_or, sym, subst, arith, get_or-set_same, get_or-set_other}
+use Rattle.std.proofs.Common.{◌≡◌, ◌≢◌, ⊎_elim, ℕ, suc, ◌<◌, List, [], ◌∷◌, length, get_or, sym, subst, arith, get_or-set_same, get_or-set_other}
 use Rattle.std.specs.List.{All}
 use Rattle.std.proofs.lemmas.Bool.{cases_eq}
 use Rattle.oct_def.specs.Matrix.{MeetsValue}

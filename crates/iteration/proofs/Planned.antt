@@ -6,21 +6,20 @@ use Rattle.oct_def.specs.Octagon.{Octagon, tight_value}
 use Rattle.spl_core.specs.declared.parts.Proc.{Proc}
 use Rattle.spl_core.specs.Parts.{Parts, proc_at, owner_of}
 use Rattle.spl_core.specs.Facts.{IsCore}
-use Rattle.spl_core.specs.Graph.{dims_at, graph_of, proc_of, main_of}
+use Rattle.spl_core.specs.Graph.{dims_at, graph_of}
 use Rattle.spl_core.proofs.Graphs.{cores_are_graphs}
-use Rattle.call_graph.specs.Order.{is_cut}
 use Rattle.call_graph.specs.Tables.{Tables, tables_of}
-use Rattle.equations.specs.Sources.{reads_at, readers}
-use Rattle.equations.specs.Table.{Table, table_of}
+use Rattle.equations.specs.Sources.{readers}
+use Rattle.equations.specs.Table.{Table}
 use Rattle.equations.proofs.Facts.{known}
 use Rattle.equations.proofs.Readers.{reader_told, readers_within}
 use Rattle.equations.proofs.Sourced.{equation-bottom}
 use Rattle.rounds.specs.System.{IsSystem, AreReaders, StaysBottom}
 use Rattle.rounds.specs.Outcome.{IsOutcome}
 use Rattle.iteration.specs.Plan.{IsPlan}
-use Rattle.iteration.specs.Solved.{system_of, stored_of, read_of}
-use Rattle.iteration.specs.Solution.{Solution, stored_in, IsSolution}
-use Rattle.iteration.proofs.Forward.{is_system, cuts_long, cut_read, readers_read}
+use Rattle.iteration.specs.Solved.{system_of, stored_of}
+use Rattle.iteration.specs.Solution.{IsSolution}
+use Rattle.iteration.proofs.Forward.{is_system, cuts_long, cut_read}
 
 pub plan_of : (c d : Parts) (tables : Tables) (table : Table) → c ≡ d → IsPlan c tables table → IsPlan d tables table
 plan_of c d tables table e h = subst (λ (p : Parts). IsPlan p tables table) e h

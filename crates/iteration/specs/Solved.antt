@@ -1,6 +1,6 @@
 -- The system of equations of a graph, and its solution: the ascent from Bottom, then the descent; and what is read at the points
 -- in the end.
-use Rattle.std.specs.Prelude.{ℕ, ◌+◌, ◌*◌, List, length}
+use Rattle.std.specs.Prelude.{ℕ, ◌+◌, ◌*◌, length}
 use Rattle.oct_def.specs.Octagon.{Octagon, widen_value}
 use Rattle.spl_core.specs.Graph.{Graph, dims_at}
 use Rattle.call_graph.specs.Order.{order, is_cut}

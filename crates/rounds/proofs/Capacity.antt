@@ -1,5 +1,5 @@
 -- A fixed number of rounds is enough for the ascent of every system, since the rounds of each can be counted.
-use Rattle.std.proofs.Common.{◌≡◌, ◌⊎◌, inl, inr, ℕ, zero, suc, ◌+◌, ◌-◌, ◌<◌, ◌≤◌, Bool, true, false, cond, List, refl, sym, ap, ◌∙◌, arith}
+use Rattle.std.proofs.Common.{◌≡◌, ◌⊎◌, inl, inr, ℕ, zero, suc, ◌+◌, ◌-◌, ◌≤◌, Bool, true, false, cond, List, refl, sym, ap, ◌∙◌, arith}
 use Rattle.std.proofs.lemmas.Bool.{false≢true}
 use Rattle.rounds.specs.System.{System, IsSystem, most_delay, most_rounds}
 use Rattle.rounds.specs.Rounds.{Cell, visits, changing, ascended_in, ascent}

@@ -1,5 +1,5 @@
 -- What each single replacement keeps, the rounds keep: P of the cells, where Q holds of the points that are visited.
-use Rattle.std.proofs.Common.{ℕ, zero, suc, ◌+◌, ◌<◌, Bool, true, false, cond, List, [], ◌∷◌, arith}
+use Rattle.std.proofs.Common.{ℕ, zero, suc, ◌+◌, Bool, true, false, cond, List, [], ◌∷◌, arith}
 use Rattle.std.specs.List.{All}
 use Rattle.std.proofs.lemmas.List.Elements.{All-tail}
 use Rattle.rounds.specs.Rounds.{Cell, visit, visits, changing, ascended_in, ascent, repeated}

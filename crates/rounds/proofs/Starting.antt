@@ -1,10 +1,10 @@
 -- The heights at the start are within the bound, so the ascent from Bottom ends.
-use Rattle.std.proofs.Common.{◌≡◌, ℕ, ◌+◌, ◌*◌, ◌≤◌, Bool, true, false, cond, get_or, refl, sym, subst, arith}
+use Rattle.std.proofs.Common.{◌≡◌, ℕ, ◌+◌, ◌≤◌, Bool, true, false, cond, get_or, refl, sym, subst, arith}
 use Rattle.std.specs.List.{All}
 use Rattle.oct_def.specs.Octagon.{IsOctagon, bottom_value}
 use Rattle.rounds.specs.System.{System, IsSystem, share, capacity, most_rounds}
 use Rattle.rounds.specs.Rounds.{Cell, cell_at, changing}
-use Rattle.rounds.specs.Solved.{start_cell, start, rising, ascent_of, rounds_of}
+use Rattle.rounds.specs.Solved.{start, rising, ascent_of, rounds_of}
 use Rattle.rounds.specs.Ends.{EndsIn, AreGood}
 use Rattle.rounds.proofs.Sums.{sum-most}
 use Rattle.rounds.proofs.Heights.{height, height_at, total}

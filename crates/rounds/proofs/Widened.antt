@@ -1,10 +1,10 @@
 -- The widening of the domain is one: its rank counts the finite entries.
-use Rattle.std.proofs.Common.{◌≡◌, ℕ, ◌+◌, ◌*◌, ◌<◌, ◌≤◌, ◌⊎◌, inl, inr, Bool, true, false, cond, Option, Some, None, length, refl, sym, ap, ◌∙◌, subst, arith}
+use Rattle.std.proofs.Common.{◌≡◌, ℕ, ◌+◌, ◌*◌, ◌<◌, ◌≤◌, ◌⊎◌, inl, inr, Bool, true, false, cond, Option, Some, None, length, refl, sym, ap, subst, arith}
 use Rattle.std.proofs.lemmas.Bool.{false≢true, cases_lt}
 use Rattle.oct_def.specs.Bound.{Bound, greatest, at_most}
 use Rattle.oct_def.specs.Table.{Matrix, table, at}
 use Rattle.oct_def.specs.Octagon.{Octagon, IsOctagon, IsValueOver, bottom_value, on_either, join_entry, join_matrix, join_value, widen_bound, widen_entry, widen_matrix, widen_value}
-use Rattle.oct_def.proofs.Tables.{length-table, is-table}
+use Rattle.oct_def.proofs.Tables.{is-table}
 use Rattle.oct_def.proofs.Lattice.{octagon-widen}
 use Rattle.oct_def.proofs.Below.{at_most-same, at_most-greatest, below-widen, below-widen_left}
 use Rattle.rounds.specs.Widening.{IsWidening}

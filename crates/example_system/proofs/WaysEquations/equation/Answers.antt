@@ -1,4 +1,4 @@
-use Rattle.std.proofs.Common.{◌≡◌, ◌-◌, map, ap, sym, ◌∙◌, arith}
+use Rattle.std.proofs.Common.{◌-◌, map, ap, sym, ◌∙◌, arith}
 use Rattle.oct_def.specs.Octagon.{Octagon, join_value}
 use Rattle.rounds.specs.System.{value_at}
 use Rattle.example_system.specs.Ways.{reached}
