@@ -26,7 +26,7 @@ pub fn law_ascent()
     ensures { AscentsEnd }
 {}
 
-/// The solution has a value for each point, over its point's dimensions.
+/// The solution has a value for each point, over its point's dimensions, and it is values.
 pub fn law_sizes()
     ensures sizes { SolutionsAreSized }
     ensures values { SolutionsAreValues }
