@@ -1,5 +1,5 @@
-// Domains: values that stand for octagons, and what the analysis does to them. The definitions of each call are those of
-// oct_def and transfer_def; a domain chooses how its values lie in memory.
+//! Domains: values that stand for octagons, and what the analysis does to them. The definitions of each call are those of
+//! oct_def and transfer_def; a domain chooses how its values lie in memory.
 #![tactic(auto)]
 
 mod domain;

@@ -1,4 +1,4 @@
-// The plain domain of octagons: full matrices of words, closed as the definitions say, shared by `Rc`.
+//! The plain domain of octagons: full matrices of words, closed as the definitions say, shared by `Rc`.
 #![tactic(auto)]
 
 mod assign;

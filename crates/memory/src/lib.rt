@@ -1,4 +1,4 @@
-// Want of memory, the one refusal that any call that allocates may give: said once for all crates.
+//! Want of memory, the one refusal that any call that allocates may give: said once for all crates.
 #![tactic(auto)]
 
 use std::alloc::{AllocError, AllocFailed};

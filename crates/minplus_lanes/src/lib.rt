@@ -1,4 +1,4 @@
-// Rows of bounds, relaxed word by word.
+//! Rows of bounds, relaxed word by word.
 #![tactic(auto)]
 
 mod choose;

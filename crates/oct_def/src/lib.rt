@@ -1,9 +1,9 @@
-// Octagons over the integers: bounds, matrices over signed dimensions, the tight closure, the lattice of values and
-// their laws, as definitions; and the words that stand for bounds in the code of the domains.
-//
-// The definitions follow A. Miné, "The Octagon Abstract Domain", Higher-Order and Symbolic Computation 19 (2006), and
-// R. Bagnara, P. Hill and E. Zaffanella, "An Improved Tight Closure Algorithm for Integer Octagonal Constraints",
-// VMCAI 2008.
+//! Octagons over the integers: bounds, matrices over signed dimensions, the tight closure, the lattice of values and
+//! their laws, as definitions; and the words that stand for bounds in the code of the domains.
+//!
+//! The definitions follow A. Miné, "The Octagon Abstract Domain", Higher-Order and Symbolic Computation 19 (2006), and
+//! R. Bagnara, P. Hill and E. Zaffanella, "An Improved Tight Closure Algorithm for Integer Octagonal Constraints",
+//! VMCAI 2008.
 #![tactic(auto)]
 
 mod dimensions;

@@ -1,6 +1,6 @@
-// The assignment, the random assignment, the test, the call and the return on octagons, with their laws. The definitions
-// stand in specs/; the functions here have no code, and each has a law for its contract. To use a law, call it and cite its
-// `ensures`.
+//! The assignment, the random assignment, the test, the call and the return on octagons, with their laws. The definitions
+//! stand in specs/; the functions here have no code, and each has a law for its contract. To use a law, call it and cite its
+//! `ensures`.
 #![tactic(auto)]
 
 ghost use Rattle.transfer_def.specs.CallExamples.{CallExamples};
