@@ -33,7 +33,7 @@ WORDS = (
     "99999999999999999999 --delay=1 é"
 ).split()
 RULES = (
-    "BadByte|OpenComment|BigLiteral|LongName|TooDeep|LongRun|Syntax|DuplicateName|UnsupportedType|UnsupportedOperator|"
+    "BadByte|OpenComment|BigLiteral|LongName|TooDeep|LongRun|Syntax|DuplicateName|UnsupportedType|"
     "UnknownVariable|UnknownProcedure|WrongCount|RepeatedTarget|WrongKind|TooManyVariables|TooManyProcedures|"
     "TooManyPoints|BadChoices"
 )

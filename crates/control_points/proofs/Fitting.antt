@@ -8,8 +8,8 @@ use Rattle.std.proofs.lemmas.List.Folds.{list_any-append}
 use Rattle.spl_tree.specs.declared.parts.BinOp.{BinOp}
 use Rattle.spl_tree.specs.declared.parts.BinOp.TheVariants as op
 use Rattle.spl_tree.specs.Program.{Named, ExprTree, number, variable, true_value, false_value, random_value, negative, opposite, binary, StmtTree, skip, halt, fail, assume, assign, call, if_then, if_else, while_do, BlockTree, empty, more, places_of}
-use Rattle.spl_types.specs.declared.fault.CheckRule.TheVariants.{UnknownVariable, RepeatedTarget, TooManyVariables, UnknownProcedure, WrongCount, UnsupportedOperator}
-use Rattle.spl_types.specs.Checks.{Check, check, is_among, plain_names, Sort, a_number, a_condition, operand_sort, result_sort, is_division, sort_check, expr_checks, assigned_checks, Met, met_in, met_by, Scope, has_room, targets_checks, proc_named, has_counts, argument_checks, call_checks, point_check, stmt_checks, block_checks}
+use Rattle.spl_types.specs.declared.fault.CheckRule.TheVariants.{UnknownVariable, RepeatedTarget, TooManyVariables, UnknownProcedure, WrongCount}
+use Rattle.spl_types.specs.Checks.{Check, check, is_among, plain_names, Sort, a_number, a_condition, operand_sort, result_sort, sort_check, expr_checks, assigned_checks, Met, met_in, met_by, Scope, has_room, targets_checks, proc_named, has_counts, argument_checks, call_checks, point_check, stmt_checks, block_checks}
 use Rattle.spl_types.specs.Faults.{Kept}
 use Rattle.spl_types.specs.Tables.{Distinct}
 use Rattle.spl_types.proofs.Firsts.{kept_first, kept_last}
@@ -29,7 +29,7 @@ operands : (names : List (List ℕ)) (w : Sort) (o : BinOp) (a b : ExprTree) (at
 operands names w o a b at h =
     let xs : List Check = expr_checks names (operand_sort o) a in
     let ys : List Check = expr_checks names (operand_sort o) b in
-    let k : Kept (xs ++ ys) = kept_last (sort_check w (result_sort o) at ∷ check UnsupportedOperator at (not (is_division o)) ∷ []) (xs ++ ys) h in
+    let k : Kept (xs ++ ys) = kept_last (sort_check w (result_sort o) at ∷ []) (xs ++ ys) h in
     (kept_first xs ys k, kept_last xs ys k)
 
 -- names that stand for one of the first n dimensions
@@ -47,8 +47,8 @@ over sp names n w (opposite a at) f h = tt
 over sp names n w (binary op.Add a b at) f h = let k = operands names w op.Add a b at h in (over sp names n a_number a f k.0, over sp names n a_number b f k.1)
 over sp names n w (binary op.Sub a b at) f h = let k = operands names w op.Sub a b at h in (over sp names n a_number a f k.0, over sp names n a_number b f k.1)
 over sp names n w (binary op.Mul a b at) f h = let k = operands names w op.Mul a b at h in (over sp names n a_number a f k.0, over sp names n a_number b f k.1)
-over sp names n w (binary op.Div a b at) f h = tt
-over sp names n w (binary op.Rem a b at) f h = tt
+over sp names n w (binary op.Div a b at) f h = let k = operands names w op.Div a b at h in (over sp names n a_number a f k.0, over sp names n a_number b f k.1)
+over sp names n w (binary op.Rem a b at) f h = let k = operands names w op.Rem a b at h in (over sp names n a_number a f k.0, over sp names n a_number b f k.1)
 over sp names n w (binary op.Or a b at) f h = tt
 over sp names n w (binary op.And a b at) f h = tt
 over sp names n w (binary op.Eq a b at) f h = tt

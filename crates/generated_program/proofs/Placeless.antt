@@ -4,7 +4,7 @@ use Rattle.std.specs.List.{list_all}
 use Rattle.std.proofs.lemmas.List.{length-map, map-append}
 use Rattle.std.proofs.lemmas.Bool.{and_parts}
 use Rattle.spl_tree.specs.Program.{Named, Declared, ExprTree, number, variable, true_value, false_value, random_value, negative, opposite, binary, StmtTree, skip, halt, fail, assume, assign, call, if_then, if_else, while_do, BlockTree, empty, more, placeless_name, placeless_decl, placeless_expr, placeless_stmt, placeless_block, placeless_proc, places_of, ProcMeaning, Program, SamePlacesAside}
-use Rattle.spl_types.specs.Checks.{Check, Met, Scope, Procedure, Sort, a_number, a_condition, is_sort, result_sort, operand_sort, is_division, is_int, is_among, declared_names, plain_names, decl_checks, expr_checks, assigned_checks, with_point, with_targets, met_in, met_by, met_before, most_points, most_dimensions, point_check, target_checks, targets_checks, argument_checks, call_checks, stmt_checks, block_checks, procedure_checks, proc_named, has_counts, broken_rule, checks}
+use Rattle.spl_types.specs.Checks.{Check, Met, Scope, Procedure, Sort, a_number, a_condition, is_sort, result_sort, operand_sort, is_int, is_among, declared_names, plain_names, decl_checks, expr_checks, assigned_checks, with_point, with_targets, met_in, met_by, met_before, most_points, most_dimensions, point_check, target_checks, targets_checks, argument_checks, call_checks, stmt_checks, block_checks, procedure_checks, proc_named, has_counts, broken_rule, checks}
 use Rattle.spl_types.specs.Accepted.{point_count}
 use Rattle.spl_types.specs.Faults.{Kept}
 use Rattle.spl_types.proofs.Firsts.{broken_here, broken_later}
@@ -45,7 +45,7 @@ expr_same names w (negative a at) = ap (λ t. is_sort w a_number ∷ t) (expr_sa
 expr_same names w (opposite a at) = ap (λ t. is_sort w a_condition ∷ t) (expr_same names a_condition a)
 expr_same names w (binary op a b at) =
     let s = operand_sort op in
-    ap (λ t. is_sort w (result_sort op) ∷ not (is_division op) ∷ t)
+    ap (λ t. is_sort w (result_sort op) ∷ t)
     (both (expr_checks names s a) (expr_checks names s b) (expr_checks names s (placeless_expr a)) (expr_checks names s (placeless_expr b)) (expr_same names s a) (expr_same names s b))
 
 assigned_same : (names : List (List ℕ)) (e : ExprTree) → kepts (assigned_checks names e) ≡ kepts (assigned_checks names (placeless_expr e))

@@ -51,7 +51,6 @@ text_rule_name text.LongRun = codes "LongRun"
 
 abbrev pub check_rule_name : CheckRule → List ℕ
 check_rule_name check.UnsupportedType = codes "UnsupportedType"
-check_rule_name check.UnsupportedOperator = codes "UnsupportedOperator"
 check_rule_name check.DuplicateName = codes "DuplicateName"
 check_rule_name check.UnknownVariable = codes "UnknownVariable"
 check_rule_name check.UnknownProcedure = codes "UnknownProcedure"

@@ -104,7 +104,6 @@ fn check_rule_name(rule: CheckRule) -> &'static str
 {
     match rule {
         CheckRule::UnsupportedType => "UnsupportedType",
-        CheckRule::UnsupportedOperator => "UnsupportedOperator",
         CheckRule::DuplicateName => "DuplicateName",
         CheckRule::UnknownVariable => "UnknownVariable",
         CheckRule::UnknownProcedure => "UnknownProcedure",

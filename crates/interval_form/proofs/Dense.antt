@@ -9,7 +9,8 @@ use Rattle.oct_def.proofs.Indices.{some_index-none, some_index-each}
 use Rattle.interval_form.specs.declared.form.Term.{Term}
 use Rattle.interval_form.specs.Interval.{End, lowest, finite, highest, low_end, high_end, times, lesser, greater, least_product, greatest_product, Interval, IsOutward, point, negated, sum_of, difference_of, product_of, range_at}
 use Rattle.interval_form.specs.Form.{Form, nothing, is_nothing, coefficient, form_of, value_up_to, form_value, has_term, has_terms, has_unbounded_term, has_unbounded_terms}
-use Rattle.interval_form.specs.Linear.{no_terms, constant_form, unit_term, variable_form, difference_term, difference_form, negated_term, negated_form, sum_term, sum_form, scaled_term, scaled_form, settled, product_form}
+use Rattle.interval_form.specs.Linear.{no_terms, constant_form, unit_term, variable_form, difference_term, difference_form, negated_term, negated_form, sum_term, sum_form, scaled_term, scaled_form, settled, product_form, quotient_form, remainder_form}
+use Rattle.interval_form.specs.Quotient.{quotient_of, remainder_of}
 use Rattle.interval_form.specs.Sparse.{Sparse, IsSparse, IsFormOver, term_at, Terms, past_all, joined, form_in, is_unbounded, any_unbounded, folded, scaled_terms, joined_form, has_some}
 use Rattle.interval_form.proofs.Forms.{coefficient-form_of, constant-form_of}
 use Rattle.interval_form.proofs.Exact.{outward-sum_of, outward-product_of, outward-negated, value_up_to-quiet, nothing-sum_of}
@@ -42,6 +43,17 @@ coefficient-in n s v h = coefficient-form_of n s.constant (term_at s.terms) v h
 pub constant-form : (s : Sparse) (i : Interval) → s.constant ≡ i → s.terms ≡ [] → (n : ℕ) → form_in n s ≡ constant_form n i
 unfolding form_in constant_form no_terms
 constant-form s i c e n = same_form n s.constant i (term_at s.terms) no_terms c (λ v h. rw e)
+
+-- the quotient and the remainder of two forms
+pub quotient-alone : (ranges : List Interval) (a b : Form) (s : Sparse) (i j : Interval) → i ≡ form_value ranges a → j ≡ form_value ranges b → s.constant ≡ quotient_of i j → s.terms ≡ []
+    → form_in (length ranges) s ≡ quotient_form ranges a b
+unfolding quotient_form
+quotient-alone ranges a b s i j p q c t = constant-form s (quotient_of (form_value ranges a) (form_value ranges b)) (rw (sym p, sym q) c) t (length ranges)
+
+pub remainder-alone : (ranges : List Interval) (a b : Form) (s : Sparse) (i j : Interval) → i ≡ form_value ranges a → j ≡ form_value ranges b → s.constant ≡ remainder_of i j → s.terms ≡ []
+    → form_in (length ranges) s ≡ remainder_form ranges a b
+unfolding remainder_form
+remainder-alone ranges a b s i j p q c t = constant-form s (remainder_of (form_value ranges a) (form_value ranges b)) (rw (sym p, sym q) c) t (length ranges)
 
 pub variable-form : (s : Sparse) (x : ℕ) (t : Term) → s.constant ≡ nothing → s.terms ≡ t ∷ [] → t.dimension ≡ x → t.coefficient ≡ point (pos 1)
     → (n : ℕ) → form_in n s ≡ variable_form n x

@@ -6,11 +6,11 @@ use Rattle.spl_core.specs.declared.parts.CoreExpr.{CoreExpr}
 use Rattle.spl_core.specs.Parts.{Parts}
 use Rattle.spl_core.specs.Facts.{ExprFits, IsCore}
 use Rattle.spl_core.specs.Laws.{NumbersStandForNodes}
-use Rattle.spl_core.specs.Expression.{Expression, Number, Variable, Neg, Add, Sub, Mul}
+use Rattle.spl_core.specs.Expression.{Expression, Number, Variable, Neg, Add, Sub, Mul, Div, Rem}
 use Rattle.spl_core.specs.Graph.{expr_at, expr_over, exprs_in}
 use Rattle.interval_form.specs.Interval.{Interval, point}
 use Rattle.interval_form.specs.Form.{Form}
-use Rattle.interval_form.specs.Linear.{constant_form, variable_form, negated_form, sum_form, difference_form, product_form, linear_form}
+use Rattle.interval_form.specs.Linear.{constant_form, variable_form, negated_form, sum_form, difference_form, product_form, quotient_form, remainder_form, linear_form}
 
 pub node : (c : Parts) → NumbersStandForNodes → IsCore c → (e : ℕ) (x : CoreExpr) → e < length c.exprs → x ≡ get_or c.exprs e x → expr_over (exprs_in c) x ≡ expr_at (exprs_in c) e
 node c law w e x l h = ap (expr_over (exprs_in c)) h ∙ sym ((law c w).expr e x l)
@@ -45,3 +45,11 @@ linear-sub ranges f g a b e p q h = rw (p, q) (ap (linear_form ranges) h)
 pub linear-mul : (ranges : List Interval) (f g : Form) (a b e : Expression) → f ≡ linear_form ranges a → g ≡ linear_form ranges b → Mul a b ≡ e → product_form ranges f g ≡ linear_form ranges e
 unfolding linear_form
 linear-mul ranges f g a b e p q h = rw (p, q) (ap (linear_form ranges) h)
+
+pub linear-div : (ranges : List Interval) (f g : Form) (a b e : Expression) → f ≡ linear_form ranges a → g ≡ linear_form ranges b → Div a b ≡ e → quotient_form ranges f g ≡ linear_form ranges e
+unfolding linear_form
+linear-div ranges f g a b e p q h = rw (p, q) (ap (linear_form ranges) h)
+
+pub linear-rem : (ranges : List Interval) (f g : Form) (a b e : Expression) → f ≡ linear_form ranges a → g ≡ linear_form ranges b → Rem a b ≡ e → remainder_form ranges f g ≡ linear_form ranges e
+unfolding linear_form
+linear-rem ranges f g a b e p q h = rw (p, q) (ap (linear_form ranges) h)

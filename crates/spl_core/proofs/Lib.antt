@@ -2,3 +2,4 @@ pub mod Nodes
 pub mod Worked
 pub mod Graphs
 mod Literals
+pub mod Values

@@ -53,6 +53,8 @@ node_limited trees k (expr.Neg a) h f = expr_limited trees a h
 node_limited trees k (expr.Add a b) h f = (expr_limited trees a h, expr_limited trees b h)
 node_limited trees k (expr.Sub a b) h f = (expr_limited trees a h, expr_limited trees b h)
 node_limited trees k (expr.Mul a b) h f = (expr_limited trees a h, expr_limited trees b h)
+node_limited trees k (expr.Div a b) h f = (expr_limited trees a h, expr_limited trees b h)
+node_limited trees k (expr.Rem a b) h f = (expr_limited trees a h, expr_limited trees b h)
 
 condition_limited : (exprs : List Expression) (trees : List Condition) (e : CoreCond) → AllLimited exprs → AllConditionsLimited trees → IsConditionLimited (cond_over exprs trees e)
 condition_limited exprs trees cond.True g h = tt

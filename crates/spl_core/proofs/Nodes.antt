@@ -8,7 +8,7 @@ use Rattle.spl_core.specs.declared.parts.CoreCond.{CoreCond}
 use Rattle.spl_core.specs.declared.parts.CoreCond.TheVariants as cond
 use Rattle.spl_core.specs.Parts.{Parts}
 use Rattle.spl_core.specs.Facts.{Each, ExprFits, CondFits, IsCore}
-use Rattle.spl_core.specs.Expression.{Expression, Number, Neg, Add, Sub, Mul}
+use Rattle.spl_core.specs.Expression.{Expression, Number, Neg, Add, Sub, Mul, Div, Rem}
 use Rattle.spl_core.specs.Condition.{Condition, Random, Not, And, Or}
 use Rattle.spl_core.specs.Graph.{expr_at, expr_over, exprs_after, exprs_in, cond_at, cond_over, conds_after, conds_in}
 use Rattle.spl_core.specs.Laws.{StandsFor}
@@ -50,6 +50,8 @@ same_expr final trees k (expr.Neg a) h w = ap (λ x. Neg x) (w a h)
 same_expr final trees k (expr.Add a b) h w = ap (λ x. Add x (expr_at final b)) (w a h.0) ∙ ap (λ x. Add (expr_at trees a) x) (w b h.1)
 same_expr final trees k (expr.Sub a b) h w = ap (λ x. Sub x (expr_at final b)) (w a h.0) ∙ ap (λ x. Sub (expr_at trees a) x) (w b h.1)
 same_expr final trees k (expr.Mul a b) h w = ap (λ x. Mul x (expr_at final b)) (w a h.0) ∙ ap (λ x. Mul (expr_at trees a) x) (w b h.1)
+same_expr final trees k (expr.Div a b) h w = ap (λ x. Div x (expr_at final b)) (w a h.0) ∙ ap (λ x. Div (expr_at trees a) x) (w b h.1)
+same_expr final trees k (expr.Rem a b) h w = ap (λ x. Rem x (expr_at final b)) (w a h.0) ∙ ap (λ x. Rem (expr_at trees a) x) (w b h.1)
 
 same_cond : (c : Parts) (es : List Expression) (final trees : List Condition) (k : ℕ) (e : CoreCond) → CondFits c k e → SameBelow Random k final trees → cond_over es final e ≡ cond_over es trees e
 same_cond c es final trees k cond.True h w = refl

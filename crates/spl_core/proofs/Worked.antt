@@ -8,8 +8,9 @@ use Rattle.spl_core.specs.declared.parts.CoreExpr.{CoreExpr}
 use Rattle.spl_core.specs.declared.parts.CoreCond.{CoreCond}
 use Rattle.spl_core.specs.Parts.{proc_at, edge_at}
 use Rattle.spl_core.specs.Facts.{ExprFits, CondFits, EdgeFits, ProcFits, IsWritable, IsCall, AreFew, IsCore}
+use Rattle.spl_core.specs.Expression.{eval}
 use Rattle.spl_core.specs.Graph.{Copy, pairs_in, graph_of}
-use Rattle.spl_core.specs.Examples.{incremented, squared, CoreExamples}
+use Rattle.spl_core.specs.Examples.{incremented, squared, CoreExamples, DivisionExamples}
 
 calls_alone : (i j : ℕ) → i < length incremented.edges → j < length incremented.edges → IsCall (edge_at incremented i).action
     → (edge_at incremented i).source ≡ (edge_at incremented j).source → i ≡ j
@@ -188,3 +189,20 @@ keeps_squared = record {
 pub core_examples : CoreExamples
 unfolding graph_of
 core_examples = record { keeps = keeps; keeps_squared = keeps_squared; stands = refl }
+
+pub division_examples : DivisionExamples
+unfolding eval
+division_examples = record {
+  positive = record { quotient = refl; remainder = refl };
+  by_negative = record { quotient = refl; remainder = refl };
+  of_negative = record { quotient = refl; remainder = refl };
+  of_two_negatives = record { quotient = refl; remainder = refl };
+  of_smaller = record { quotient = refl; remainder = refl };
+  quotient_by_zero = refl;
+  remainder_by_zero = refl;
+  of_state = refl;
+  missing = refl;
+  with_missing_part = refl;
+  equal_to_missing = λ wanted e. absurd (cc);
+  unlike_missing = λ wanted e. absurd (cc);
+}

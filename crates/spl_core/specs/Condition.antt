@@ -1,5 +1,5 @@
 -- Conditions, and how they may come out in a state.
-use Rattle.std.specs.Prelude.{◌≡◌, ℕ, ◌⊎◌, Bool, true, false, not, List, ℤ, int_lt, int_le}
+use Rattle.std.specs.Prelude.{◌≡◌, ℕ, ◌⊎◌, Bool, true, false, not, List, Option, None, Some, ℤ, int_lt, int_le}
 use Rattle.std.specs.Ordering.{int_eq}
 use Rattle.spl_core.specs.declared.parts.Cmp.{Cmp}
 use Rattle.spl_core.specs.declared.parts.Cmp.TheVariants as cmp
@@ -23,6 +23,12 @@ compares cmp.Le x y = int_le x y
 compares cmp.Gt x y = int_lt y x
 compares cmp.Ge x y = int_le y x
 
+-- how a comparison of two values comes out; missing where one of them is
+abbrev pub comparison : Cmp → Option ℤ → Option ℤ → Option Bool
+comparison r None y = None
+comparison r (Some x) None = None
+comparison r (Some x) (Some y) = Some (compares r x y)
+
 -- the comparison that holds exactly where another one comes out as wanted
 abbrev pub asked : Cmp → Bool → Cmp
 asked r true = r
@@ -33,7 +39,7 @@ asked cmp.Le false = cmp.Gt
 asked cmp.Gt false = cmp.Le
 asked cmp.Ge false = cmp.Lt
 
--- a condition may come out so in a state
+-- a condition may come out so in a state; a comparison comes out neither way where a value is missing
 abbrev pub May : Condition → List ℤ → Bool → Type 0
 May (Constant value) s b = b ≡ value
 May Random s b = Unit {0}
@@ -42,7 +48,7 @@ May (And c d) s true = May c s true × May d s true
 May (And c d) s false = May c s false ⊎ May d s false
 May (Or c d) s true = May c s true ⊎ May d s true
 May (Or c d) s false = May c s false × May d s false
-May (Compare r a b) s wanted = compares r (eval a s) (eval b s) ≡ wanted
+May (Compare r a b) s wanted = comparison r (eval a s) (eval b s) ≡ Some wanted
 
 -- each variable of the condition is one of the first n dimensions
 abbrev pub IsConditionOver : ℕ → Condition → Type 0

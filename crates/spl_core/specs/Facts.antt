@@ -7,7 +7,7 @@ use Rattle.spl_core.specs.declared.parts.Action.{Action}
 use Rattle.spl_core.specs.declared.parts.Action.TheVariants as action
 use Rattle.spl_core.specs.declared.parts.Proc.{Proc}
 use Rattle.spl_core.specs.declared.parts.CoreExpr.{CoreExpr}
-use Rattle.spl_core.specs.declared.parts.CoreExpr.TheVariants.{Number, Variable, Neg, Add, Sub, Mul}
+use Rattle.spl_core.specs.declared.parts.CoreExpr.TheVariants.{Number, Variable, Neg, Add, Sub, Mul, Div, Rem}
 use Rattle.spl_core.specs.declared.parts.CoreCond.{CoreCond}
 use Rattle.spl_core.specs.declared.parts.CoreCond.TheVariants.{True, False, Random, Not, And, Or, Compare}
 use Rattle.spl_core.specs.Limits.{most_procedures, most_points, most_dimensions, most_items, greatest_literal}
@@ -29,6 +29,8 @@ ExprFits k (Neg a) = a < k
 ExprFits k (Add a b) = (a < k) × (b < k)
 ExprFits k (Sub a b) = (a < k) × (b < k)
 ExprFits k (Mul a b) = (a < k) × (b < k)
+ExprFits k (Div a b) = (a < k) × (b < k)
+ExprFits k (Rem a b) = (a < k) × (b < k)
 
 abbrev pub CondFits : Parts → ℕ → CoreCond → Type 0
 CondFits c k True = Unit {0}

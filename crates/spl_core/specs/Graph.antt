@@ -9,7 +9,7 @@ use Rattle.spl_core.specs.declared.parts.CoreExpr.TheVariants as expr
 use Rattle.spl_core.specs.declared.parts.CoreCond.{CoreCond}
 use Rattle.spl_core.specs.declared.parts.CoreCond.TheVariants as cond
 use Rattle.spl_core.specs.Parts.{Parts, no_proc, span_dims}
-use Rattle.spl_core.specs.Expression.{Expression, Number, Variable, Neg, Add, Sub, Mul}
+use Rattle.spl_core.specs.Expression.{Expression, Number, Variable, Neg, Add, Sub, Mul, Div, Rem}
 use Rattle.spl_core.specs.Condition.{Condition, Constant, Random, Not, And, Or, Compare}
 
 -- a copy: the target takes the value of the origin
@@ -86,6 +86,8 @@ expr_over trees (expr.Neg a) = Neg (expr_at trees a)
 expr_over trees (expr.Add a b) = Add (expr_at trees a) (expr_at trees b)
 expr_over trees (expr.Sub a b) = Sub (expr_at trees a) (expr_at trees b)
 expr_over trees (expr.Mul a b) = Mul (expr_at trees a) (expr_at trees b)
+expr_over trees (expr.Div a b) = Div (expr_at trees a) (expr_at trees b)
+expr_over trees (expr.Rem a b) = Rem (expr_at trees a) (expr_at trees b)
 
 abbrev pub exprs_after : List Expression → List CoreExpr → List Expression
 exprs_after trees [] = trees

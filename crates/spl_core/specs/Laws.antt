@@ -1,11 +1,11 @@
--- What each number of a core stands for, by its own node: the case of the node over what its children stand for; and the
--- literals of a core.
-use Rattle.std.specs.Prelude.{◌≡◌, ℕ, ◌<◌, length, slice_index_or}
+-- What each number of a core stands for, by its own node: the case of the node over what its children stand for; the literals
+-- of a core; and that quotients are truncated toward zero.
+use Rattle.std.specs.Prelude.{◌≡◌, ◌≢◌, ℕ, ◌<◌, ◌≤◌, length, slice_index_or, ℤ, pos, ◌*ℤ◌, nat_abs}
 use Rattle.std.specs.List.{All}
 use Rattle.spl_core.specs.declared.parts.CoreExpr.{CoreExpr}
 use Rattle.spl_core.specs.declared.parts.CoreCond.{CoreCond}
 use Rattle.spl_core.specs.Parts.{Parts}
-use Rattle.spl_core.specs.Expression.{IsLimited}
+use Rattle.spl_core.specs.Expression.{IsLimited, divided, left_over}
 use Rattle.spl_core.specs.Condition.{IsConditionLimited}
 use Rattle.spl_core.specs.Facts.{IsCore}
 use Rattle.spl_core.specs.Graph.{Move, skips, assigns, havocs, tests, calls, starts, Arc, expr_at, expr_over, exprs_in, cond_at, cond_over, conds_in, graph_of}
@@ -38,3 +38,12 @@ pub record Limited (c : Parts) : Type 0 where
 
 abbrev pub LiteralsAreLimited : Type 0
 LiteralsAreLimited = (c : Parts) → IsCore c → Limited c
+
+-- divisor times quotient is no greater in size than the dividend, and what is left over is smaller in size than the divisor:
+-- one integer alone does both, the exact quotient truncated toward zero
+pub record TruncatesTowardZero (x y : ℤ) : Type 0 where
+  pub quotient : nat_abs (y *ℤ (divided x y)) ≤ nat_abs x
+  pub remainder : nat_abs (left_over x y) < nat_abs y
+
+abbrev pub QuotientsTruncateTowardZero : Type 0
+QuotientsTruncateTowardZero = (x y : ℤ) → y ≢ pos 0 → TruncatesTowardZero x y

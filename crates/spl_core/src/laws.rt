@@ -1,7 +1,7 @@
 //! Laws over the definitions, as calls whose contracts are the laws.
-ghost use Rattle.spl_core.specs.Examples.{CoreExamples};
+ghost use Rattle.spl_core.specs.Examples.{CoreExamples, DivisionExamples};
 ghost use Rattle.spl_core.specs.GraphFacts.{CoresAreGraphs, GraphsAreCores};
-ghost use Rattle.spl_core.specs.Laws.{LiteralsAreLimited, NumbersStandForNodes};
+ghost use Rattle.spl_core.specs.Laws.{LiteralsAreLimited, NumbersStandForNodes, QuotientsTruncateTowardZero};
 
 /// Each number of a core stands for its own node over what the numbers of its children stand for.
 pub fn law_numbers()
@@ -19,7 +19,13 @@ pub fn law_literals()
     ensures { LiteralsAreLimited }
 {}
 
-/// The worked core of `specs/Examples.antt`.
+/// A quotient is the exact one, truncated toward zero.
+pub fn law_quotient()
+    ensures { QuotientsTruncateTowardZero }
+{}
+
+/// The worked core and the worked quotients and remainders of `specs/Examples.antt`.
 pub fn law_examples()
-    ensures { CoreExamples }
+    ensures core { CoreExamples }
+    ensures division { DivisionExamples }
 {}

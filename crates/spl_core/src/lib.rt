@@ -8,6 +8,6 @@ mod laws;
 mod parts;
 mod program;
 
-pub use laws::{law_examples, law_graph, law_literals, law_numbers};
+pub use laws::{law_examples, law_graph, law_literals, law_numbers, law_quotient};
 pub use parts::{Action, Cmp, CoreCond, CoreExpr, CoreParts, Edge, Proc, Span};
 pub use program::Core;

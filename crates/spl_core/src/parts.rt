@@ -52,7 +52,8 @@ pub struct Proc {
     pub exit: u32,
 }
 
-/// An expression over expressions with lower numbers.
+/// An expression over expressions with lower numbers. `Div` truncates toward zero and `Rem` is what that leaves; neither has a
+/// value where its second operand is 0.
 #[derive(Clone, Copy, Debug, Drop, PartialEq, Eq)]
 pub enum CoreExpr {
     Number(u64),
@@ -61,6 +62,8 @@ pub enum CoreExpr {
     Add(u32, u32),
     Sub(u32, u32),
     Mul(u32, u32),
+    Div(u32, u32),
+    Rem(u32, u32),
 }
 
 /// A comparison of two numbers.

@@ -42,7 +42,7 @@ keeps-copied p (c ∷ copies) s f =
 
 pub keeps-flow : (g : Graph) (p : Proc) (m : Move) (s t : State) → MoveFits g.procs p m → Flow m s t → Keeps p s t
 keeps-flow g p skips s t f h = keeps-same p s t h
-keeps-flow g p (assigns x e) s t f h = subst (Keeps p s) (sym h) (keeps-set p s x _ f.0)
+keeps-flow g p (assigns x e) s t f h = subst (Keeps p s) (sym h.2) (keeps-set p s x h.0 f.0)
 keeps-flow g p (havocs x) s t f h = subst (Keeps p s) (sym h.1) (keeps-set p s x h.0 f)
 keeps-flow g p (tests c wanted) s t f h = keeps-same p s t h.1
 keeps-flow g p (calls callee args targets) s t f h = absurd h

@@ -1,90 +1,88 @@
 -- Values within 128 bits, from those of the parts; and a core's numbers by their nodes.
-use Rattle.std.proofs.Common.{◌≡◌, ℕ, ◌^◌, ◌<◌, Bool, true, false, length, get_or, Option, None, Some, ℤ, pos, ◌+ℤ◌, ◌-ℤ◌, ◌*ℤ◌, neg_ℤ, FitsSigned, to_z, of_z, refl, sym, ap, subst, ◌∙◌, arith}
+use Rattle.std.proofs.Common.{◌≡◌, ◌≢◌, ℕ, ◌^◌, ◌<◌, Bool, true, false, length, get_or, Option, None, Some, ℤ, pos, neg_ℤ, FitsSigned, option_map, int_rem, to_z, of_z, refl, sym, ap, subst, ◌∙◌, arith}
 use Rattle.std.specs.Prelude.{not, ◌||◌, if◌then◌else◌}
 use Rattle.std.specs.Int.{w128}
-use Rattle.std.specs.Option.{SomeIff}
+use Rattle.std.specs.Ordering.{int_eq}
+use Rattle.spl_core.proofs.Values.{left_over-is}
 use Rattle.std.proofs.lemmas.Int.{ints, to_z-of_z}
+use Rattle.std.proofs.lemmas.Bool.Decides.{Decides-int_eq}
 use Rattle.spl_core.specs.declared.parts.CoreExpr.{CoreExpr}
 use Rattle.spl_core.specs.declared.parts.CoreCond.{CoreCond}
 use Rattle.spl_core.specs.Parts.{Parts}
 use Rattle.spl_core.specs.Facts.{ExprFits, CondFits, IsCore}
 use Rattle.spl_core.specs.Laws.{NumbersStandForNodes}
-use Rattle.spl_core.specs.Expression.{Expression, Number, Variable, Neg, Add, Sub, Mul, State, value_of, eval}
+use Rattle.spl_core.specs.Expression.{Expression, Number, Variable, Neg, Add, Sub, Mul, Div, Rem, State, value_of, of_both, sum, difference, product, quotient, remainder, left_over, eval}
 use Rattle.spl_core.specs.Graph.{expr_at, expr_over, exprs_in, cond_at, cond_over, conds_in}
 use Rattle.spl_runs.specs.Word.{fits}
-use Rattle.spl_runs.specs.Replay.{is_wide}
-use Rattle.spl_runs.specs.Exact.{exact, within, negated, sum_of, difference_of, product_of}
-use Rattle.spl_runs.proofs.Fitting.{fits_of, unfit}
-
--- ---- a checked result
-
-some_iff : (r : Option ℤ) (x y : ℤ) → x ≡ y → SomeIff r (FitsSigned w128 x) x → r ≡ within y
-some_iff None x y e h = ap (λ t. if t then Some y else None) (sym (unfit y (subst (λ (z : ℤ). FitsSigned w128 z → ⊥) e h)))
-some_iff (Some z) x y e h = ap Some (h.1 ∙ e) ∙ ap (λ t. if t then Some y else None) (sym (fits_of y (subst (FitsSigned w128) e h.0)))
-
-pub neg_is : (r : Option ℤ) (x : ℤ) → FitsSigned w128 x → SomeIff r (FitsSigned w128 (neg_ℤ (to_z w128 (of_z w128 x)))) (neg_ℤ (to_z w128 (of_z w128 x))) → r ≡ negated (Some x)
-neg_is r x f h = some_iff r _ (neg_ℤ x) (ap neg_ℤ (to_z-of_z w128 x f)) h
-
-two : (g : ℤ → ℤ → ℤ) (x y : ℤ) → FitsSigned w128 x → FitsSigned w128 y → g (to_z w128 (of_z w128 x)) (to_z w128 (of_z w128 y)) ≡ g x y
-two g x y e f = ap (λ z. g z (to_z w128 (of_z w128 y))) (to_z-of_z w128 x e) ∙ ap (g x) (to_z-of_z w128 y f)
-
-pub sum_is : (r : Option ℤ) (x y : ℤ) → FitsSigned w128 x → FitsSigned w128 y → SomeIff r (FitsSigned w128 (to_z w128 (of_z w128 x) +ℤ to_z w128 (of_z w128 y))) (to_z w128 (of_z w128 x) +ℤ to_z w128 (of_z w128 y)) → r ≡ sum_of (Some x) (Some y)
-sum_is r x y e f h = some_iff r _ (x +ℤ y) (two (λ a b. a +ℤ b) x y e f) h
-
-pub product_is : (r : Option ℤ) (x y : ℤ) → FitsSigned w128 x → FitsSigned w128 y → SomeIff r (FitsSigned w128 (to_z w128 (of_z w128 x) *ℤ to_z w128 (of_z w128 y))) (to_z w128 (of_z w128 x) *ℤ to_z w128 (of_z w128 y)) → r ≡ product_of (Some x) (Some y)
-product_is r x y e f h = some_iff r _ (x *ℤ y) (two (λ a b. a *ℤ b) x y e f) h
+use Rattle.spl_runs.specs.declared.value.Computed.TheVariants as value
+use Rattle.spl_runs.specs.Replay.{is_past, is_wide}
+use Rattle.spl_runs.specs.Exact.{computed, exact, within, negated, combined}
+use Rattle.spl_runs.proofs.Fitting.{fits_of}
 
 -- ---- an expression by its parts
 
-whole : (t : Bool) (x : ℤ) → fits x ≡ t → (if not t then None else Some x) ≡ within x
-whole true x e = ap (λ b. if b then Some x else None) (sym e)
-whole false x e = ap (λ b. if b then Some x else None) (sym e)
+neg_by : (a : Bool) (p : Option ℤ) → (if a || is_past (option_map neg_ℤ p) then value.Wide else computed (option_map neg_ℤ p)) ≡ negated (if a then value.Wide else computed p)
+neg_by true p = refl
+neg_by false None = refl
+neg_by false (Some x) = refl
 
-neg_by : (a : Bool) (x : ℤ) → (if a || not (fits (neg_ℤ x)) then None else Some (neg_ℤ x)) ≡ negated (if a then None else Some x)
-neg_by true x = refl
-neg_by false x = whole (fits (neg_ℤ x)) (neg_ℤ x) refl
-
-sum_by : (a b : Bool) (x y : ℤ) → (if a || (b || not (fits (x +ℤ y))) then None else Some (x +ℤ y)) ≡ sum_of (if a then None else Some x) (if b then None else Some y)
-sum_by true b x y = refl
-sum_by false true x y = refl
-sum_by false false x y = whole (fits (x +ℤ y)) (x +ℤ y) refl
-
-difference_by : (a b : Bool) (x y : ℤ) → (if a || (b || not (fits (x -ℤ y))) then None else Some (x -ℤ y)) ≡ difference_of (if a then None else Some x) (if b then None else Some y)
-difference_by true b x y = refl
-difference_by false true x y = refl
-difference_by false false x y = whole (fits (x -ℤ y)) (x -ℤ y) refl
-
-product_by : (a b : Bool) (x y : ℤ) → (if a || (b || not (fits (x *ℤ y))) then None else Some (x *ℤ y)) ≡ product_of (if a then None else Some x) (if b then None else Some y)
-product_by true b x y = refl
-product_by false true x y = refl
-product_by false false x y = whole (fits (x *ℤ y)) (x *ℤ y) refl
+both_by : (f : ℤ → ℤ → Option ℤ) (a b : Bool) (p q : Option ℤ)
+    → (if a || (b || is_past (of_both f p q)) then value.Wide else computed (of_both f p q)) ≡ combined f (if a then value.Wide else computed p) (if b then value.Wide else computed q)
+both_by f true b p q = refl
+both_by f false true None q = refl
+both_by f false true (Some x) q = refl
+both_by f false false None None = refl
+both_by f false false None (Some y) = refl
+both_by f false false (Some x) None = refl
+both_by f false false (Some x) (Some y) = refl
 
 pub exact_neg : (a : Expression) (s : State) → negated (exact a s) ≡ exact (Neg a) s
 unfolding eval
 exact_neg a s = sym (neg_by (is_wide a s) (eval a s))
 
-pub exact_sum : (a b : Expression) (s : State) → sum_of (exact a s) (exact b s) ≡ exact (Add a b) s
+pub exact_sum : (a b : Expression) (s : State) → combined sum (exact a s) (exact b s) ≡ exact (Add a b) s
 unfolding eval
-exact_sum a b s = sym (sum_by (is_wide a s) (is_wide b s) (eval a s) (eval b s))
+exact_sum a b s = sym (both_by sum (is_wide a s) (is_wide b s) (eval a s) (eval b s))
 
-pub exact_difference : (a b : Expression) (s : State) → difference_of (exact a s) (exact b s) ≡ exact (Sub a b) s
+pub exact_difference : (a b : Expression) (s : State) → combined difference (exact a s) (exact b s) ≡ exact (Sub a b) s
 unfolding eval
-exact_difference a b s = sym (difference_by (is_wide a s) (is_wide b s) (eval a s) (eval b s))
+exact_difference a b s = sym (both_by difference (is_wide a s) (is_wide b s) (eval a s) (eval b s))
 
-pub exact_product : (a b : Expression) (s : State) → product_of (exact a s) (exact b s) ≡ exact (Mul a b) s
+pub exact_product : (a b : Expression) (s : State) → combined product (exact a s) (exact b s) ≡ exact (Mul a b) s
 unfolding eval
-exact_product a b s = sym (product_by (is_wide a s) (is_wide b s) (eval a s) (eval b s))
+exact_product a b s = sym (both_by product (is_wide a s) (is_wide b s) (eval a s) (eval b s))
 
-leaf : (x : ℤ) → fits x ≡ true → (if not (fits x) then None else Some x) ≡ Some x
-leaf x f = ap (λ b. if not b then None else Some x) f
+pub exact_quotient : (a b : Expression) (s : State) → combined quotient (exact a s) (exact b s) ≡ exact (Div a b) s
+unfolding eval
+exact_quotient a b s = sym (both_by quotient (is_wide a s) (is_wide b s) (eval a s) (eval b s))
 
-pub exact_number : (n : ℕ) (s : State) → n < 2 ^ 64 → Some (pos n) ≡ exact (Number n) s
+pub exact_remainder : (a b : Expression) (s : State) → combined remainder (exact a s) (exact b s) ≡ exact (Rem a b) s
+unfolding eval
+exact_remainder a b s = sym (both_by remainder (is_wide a s) (is_wide b s) (eval a s) (eval b s))
+
+leaf : (x : ℤ) → fits x ≡ true → (if not (fits x) then value.Wide else value.Is x) ≡ value.Is x
+leaf x f = ap (λ b. if not b then value.Wide else value.Is x) f
+
+pub exact_number : (n : ℕ) (s : State) → n < 2 ^ 64 → value.Is (pos n) ≡ exact (Number n) s
 unfolding eval
 exact_number n s l = sym (leaf (pos n) (fits_of (pos n) (let f : FitsSigned w128 (pos n) = omega (arith, ints) in f)))
 
-pub exact_variable : (v : ℕ) (s : State) → fits (value_of s v) ≡ true → Some (value_of s v) ≡ exact (Variable v) s
+pub exact_variable : (v : ℕ) (s : State) → fits (value_of s v) ≡ true → value.Is (value_of s v) ≡ exact (Variable v) s
 unfolding eval
 exact_variable v s f = sym (leaf (value_of s v) f)
+
+apart : (y : ℤ) → y ≢ pos 0 → int_eq y (pos 0) ≡ false
+apart y n = by (int_eq y (pos 0)) refl
+  where
+    by : (t : Bool) → int_eq y (pos 0) ≡ t → t ≡ false
+    by true e = absurd (n ((Decides-int_eq y (pos 0)).0 e))
+    by false e = refl
+
+-- the remainder that the code computes
+pub remainder_is : (x y r : ℤ) → FitsSigned w128 r → r ≡ int_rem x y → y ≢ pos 0 → value.Is (to_z w128 (of_z w128 r)) ≡ within (remainder x y)
+remainder_is x y r f e n =
+    let same : r ≡ left_over x y = e ∙ sym (left_over-is x y) in
+    ap value.Is (to_z-of_z w128 r f) ∙ (sym (leaf r (fits_of r f)) ∙ (ap (λ z. within (Some z)) same ∙ ap (λ b. within (if b then None else Some (left_over x y))) (sym (apart y n))))
 
 -- ---- a condition by its parts
 

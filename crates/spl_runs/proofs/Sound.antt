@@ -10,12 +10,12 @@ use Rattle.spl_core.specs.declared.parts.Action.{Action}
 use Rattle.spl_core.specs.declared.parts.Action.TheVariants as action
 use Rattle.spl_core.specs.Parts.{Parts, proc_at, edge_at, no_edge, span_dims}
 use Rattle.spl_core.specs.Facts.{IsCore, EdgeFits, ActionFits}
-use Rattle.spl_core.specs.Expression.{State, value_of, eval}
-use Rattle.spl_core.specs.Condition.{Condition, Constant, Random, Not, And, Or, Compare, compares, May}
+use Rattle.spl_core.specs.Expression.{Expression, State, value_of, eval}
+use Rattle.spl_core.specs.Condition.{Condition, Constant, Random, Not, And, Or, Compare, comparison, May}
 use Rattle.spl_core.specs.Graph.{Move, skips, assigns, havocs, tests, calls, starts, Arc, arc_of, move_of, Graph, graph_of, proc_of, main_of, no_arc, arc_at, arcs_out}
 use Rattle.spl_runs.specs.Runs.{Flow, values_of, Frame, Stack, frame, outputs_of, with_values, Step, moves, enters, leaves, Joined, last_of}
 use Rattle.spl_runs.specs.Choices.{Choice, Given}
-use Rattle.spl_runs.specs.Replay.{is_wide, is_wide_condition, same_bool, may, Change, now, no_change, past, changed, Outcome, moved, refused, wide, moved_to, over, over_some, advanced, numbered, if_called, if_some_called, left, left_over, is_zero, step_by, step_of, Top, top_of, ran, not_a_run, after, continued, replayed}
+use Rattle.spl_runs.specs.Replay.{is_wide, is_wide_condition, same_bool, comes_out, may, assigned_to, Change, now, no_change, past, changed, Outcome, moved, refused, wide, moved_to, over, over_some, advanced, numbered, if_called, if_some_called, left, left_over, is_zero, step_by, step_of, Top, top_of, ran, not_a_run, after, continued, replayed}
 use Rattle.spl_runs.specs.Laws.{Chosen, IsReplay}
 use Rattle.spl_runs.proofs.Spans.{span_length}
 use Rattle.spl_runs.proofs.Following.{stays_no, stays_wide}
@@ -38,6 +38,10 @@ one_of true b e = inl refl
 one_of false true e = inr refl
 one_of false false e = absurd (cc)
 
+came_out : (o : Option Bool) (wanted : Bool) → comes_out o wanted ≡ true → o ≡ Some wanted
+came_out None wanted e = absurd (cc)
+came_out (Some b) wanted e = ap Some (sym (same b wanted e))
+
 pub may_sound : (c : Condition) (s : State) (b : Bool) → may c s b ≡ true → May c s b
 may_sound (Constant value) s b e = same value b e
 may_sound Random s b e = tt
@@ -46,7 +50,7 @@ may_sound (And c d) s true e = let h = both (may c s true) (may d s true) e in (
 may_sound (And c d) s false e = elim (one_of (may c s false) (may d s false) e) [ inl h ↦ inl (may_sound c s false h) | inr h ↦ inr (may_sound d s false h) ]
 may_sound (Or c d) s true e = elim (one_of (may c s true) (may d s true) e) [ inl h ↦ inl (may_sound c s true h) | inr h ↦ inr (may_sound d s true h) ]
 may_sound (Or c d) s false e = let h = both (may c s false) (may d s false) e in (may_sound c s false h.0, may_sound d s false h.1)
-may_sound (Compare r x y) s wanted e = sym (same (compares r (eval x s) (eval y s)) wanted e)
+may_sound (Compare r x y) s wanted e = came_out (comparison r (eval x s) (eval y s)) wanted e
 
 -- ---- a change within a frame is a flow
 
@@ -55,9 +59,10 @@ Flows m s (now t) = Flow m s t
 Flows m s no_change = Unit {0}
 Flows m s past = Unit {0}
 
-assigned_by : (t : Bool) (m : Move) (s u : State) → Flow m s u → Flows m s (if t then past else now u)
-assigned_by true m s u f = tt
-assigned_by false m s u f = f
+assigned_by : (t : Bool) (x : ℕ) (e : Expression) (s : State) (o : Option ℤ) → eval e s ≡ o → Flows (assigns x e) s (if t then past else assigned_to x s o)
+assigned_by true x e s o h = tt
+assigned_by false x e s None h = tt
+assigned_by false x e s (Some y) h = (y, h, refl)
 
 tested_by : (w t : Bool) (c : Condition) (wanted : Bool) (s : State) → may c s wanted ≡ t → Flows (tests c wanted) s (if w then past else (if t then now s else no_change))
 tested_by true t c wanted s e = tt
@@ -67,7 +72,7 @@ tested_by false false c wanted s e = tt
 flows : (m : Move) (s : State) (values : List ℤ) → Flows m s (changed m s values)
 flows skips s [] = refl
 flows skips s (y ∷ ys) = tt
-flows (assigns x e) s [] = assigned_by (is_wide e s) (assigns x e) s _ refl
+flows (assigns x e) s [] = assigned_by (is_wide e s) x e s (eval e s) refl
 flows (assigns x e) s (y ∷ ys) = tt
 flows (havocs x) s [] = tt
 flows (havocs x) s (y ∷ []) = (y, refl)

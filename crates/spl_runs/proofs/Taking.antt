@@ -1,6 +1,6 @@
 -- A step of a replay moves on exactly where its choice takes it there, and each step of a run has a choice.
 use Rattle.std.proofs.Common.{◌≡◌, ℕ, suc, zero, ◌+◌, ◌<◌, inl, inr, Bool, true, false, List, [], ◌∷◌, ◌++◌, length, take, drop, get_or, Option, None, Some, ℤ, pos, negsuc, refl, sym, ap, subst, ◌∙◌, arith, length-append, length-drop}
-use Rattle.std.specs.Prelude.{filter, slice_get, slice_set, nat_eq, ◌&&◌, ◌||◌, not, if◌then◌else◌, cond}
+use Rattle.std.specs.Prelude.{filter, slice_get, nat_eq, ◌&&◌, ◌||◌, not, if◌then◌else◌, cond}
 use Rattle.std.proofs.Math.Seq.{take-append_seam}
 use Rattle.std.proofs.lemmas.List.{length-map, take-append-drop}
 use Rattle.std.proofs.lemmas.Bool.{eqb-true}
@@ -12,7 +12,7 @@ use Rattle.spl_core.specs.Graph.{Move, skips, assigns, havocs, tests, calls, sta
 use Rattle.spl_core.specs.GraphFacts.{IsGraph, ArcFits, ProcFitsIn}
 use Rattle.spl_runs.specs.Runs.{Flow, values_of, Frame, Stack, frame, outputs_of, with_values, Step, moves, enters, leaves}
 use Rattle.spl_runs.specs.Choices.{Choice}
-use Rattle.spl_runs.specs.Replay.{is_wide, is_wide_condition, same_bool, may, Change, now, no_change, past, changed, Outcome, moved, refused, wide, moved_to, over, over_some, advanced, numbered, return_edge, if_called, if_some_called, if_pop, left_over, is_zero, step_by, step_of}
+use Rattle.spl_runs.specs.Replay.{is_wide, is_wide_condition, same_bool, comes_out, may, assigned_to, Change, now, no_change, past, changed, Outcome, moved, refused, wide, moved_to, over, over_some, advanced, numbered, return_edge, if_called, if_some_called, if_pop, left_over, is_zero, step_by, step_of}
 use Rattle.spl_runs.specs.Takes.{Gives, IsEdgeOut, Takes, moves_over, calls_in, pops_back, is_wide_move, is_wide_over, is_wide_step, MovesAreTaken, TakenAreMoves, TakenAreSteps, StepsHaveChoices}
 use Rattle.spl_runs.proofs.Sound.{IsArc, ArcsAre, numbered_arc, may_sound, step_moves, step_leaves}
 use Rattle.spl_runs.proofs.Coming.{call_fits}
@@ -43,7 +43,7 @@ may_complete (And c d) s false (inr h) = or_last (may c s false) (may d s false)
 may_complete (Or c d) s true (inl h) = or_first (may c s true) (may d s true) (may_complete c s true h)
 may_complete (Or c d) s true (inr h) = or_last (may c s true) (may d s true) (may_complete d s true h)
 may_complete (Or c d) s false h = and_true (may c s false) (may d s false) (may_complete c s false h.0) (may_complete d s false h.1)
-may_complete (Compare r x y) s wanted h = ap (λ b. same_bool b wanted) h ∙ is_same wanted
+may_complete (Compare r x y) s wanted h = ap (λ o. comes_out o wanted) h ∙ is_same wanted
 
 -- ---- within a frame
 
@@ -52,9 +52,10 @@ GivenBy m s values (now t) = Gives m s values t × (is_wide_move m s ≡ false)
 GivenBy m s values no_change = Unit {0}
 GivenBy m s values past = Unit {0}
 
-assigned_by : (w : Bool) (x : ℕ) (e : Expression) (s : State) → is_wide e s ≡ w → GivenBy (assigns x e) s [] (if w then past else now (slice_set s x (eval e s)))
-assigned_by true x e s h = tt
-assigned_by false x e s h = ((refl, refl), h)
+assigned_by : (w : Bool) (x : ℕ) (e : Expression) (s : State) (o : Option ℤ) → is_wide e s ≡ w → eval e s ≡ o → GivenBy (assigns x e) s [] (if w then past else assigned_to x s o)
+assigned_by true x e s o h g = tt
+assigned_by false x e s None h g = tt
+assigned_by false x e s (Some y) h g = ((refl, (y, g, refl)), h)
 
 tested_by : (w t : Bool) (c : Condition) (wanted : Bool) (s : State) → is_wide_condition c s ≡ w → may c s wanted ≡ t → GivenBy (tests c wanted) s [] (if w then past else (if t then now s else no_change))
 tested_by true t c wanted s h e = tt
@@ -64,7 +65,7 @@ tested_by false false c wanted s h e = tt
 given_by : (m : Move) (s : State) (values : List ℤ) → GivenBy m s values (changed m s values)
 given_by skips s [] = ((refl, refl), refl)
 given_by skips s (y ∷ ys) = tt
-given_by (assigns x e) s [] = assigned_by (is_wide e s) x e s refl
+given_by (assigns x e) s [] = assigned_by (is_wide e s) x e s (eval e s) refl refl
 given_by (assigns x e) s (y ∷ ys) = tt
 given_by (havocs x) s [] = tt
 given_by (havocs x) s (y ∷ []) = ((y, refl, refl), refl)
@@ -77,7 +78,7 @@ given_by (starts copies) s (y ∷ ys) = tt
 
 change_is : (m : Move) (s : State) (values : List ℤ) (t : State) → Gives m s values t → is_wide_move m s ≡ false → changed m s values ≡ now t
 change_is skips s values t h w = ap (changed skips s) h.0 ∙ ap now (sym h.1)
-change_is (assigns x e) s values t h w = ap (changed (assigns x e) s) h.0 ∙ (ap (λ b. if b then past else now (slice_set s x (eval e s))) w ∙ ap now (sym h.1))
+change_is (assigns x e) s values t h w = ap (changed (assigns x e) s) h.0 ∙ (ap (λ b. if b then past else assigned_to x s (eval e s)) w ∙ (ap (assigned_to x s) h.1.1 ∙ ap now (sym h.1.2)))
 change_is (havocs x) s values t h w = ap (changed (havocs x) s) h.1 ∙ ap now (sym h.2)
 change_is (tests c wanted) s values t h w =
     ap (changed (tests c wanted) s) h.0

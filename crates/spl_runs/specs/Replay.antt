@@ -1,8 +1,8 @@
 -- What choices do to a stack: the next stack, or why there is none. The state of a frame has integers without limit.
 use Rattle.std.specs.Prelude.{ℕ, ◌+◌, Bool, true, false, not, ◌&&◌, ◌||◌, nat_eq, if◌then◌else◌, List, [], ◌∷◌, ◌++◌, length, fold, slice_get, slice_set, Option, None, Some, ℤ, pos, negsuc}
 use Rattle.spl_core.specs.declared.parts.Proc.{Proc}
-use Rattle.spl_core.specs.Expression.{Expression, Number, Variable, Neg, Add, Sub, Mul, State, eval}
-use Rattle.spl_core.specs.Condition.{Condition, Constant, Random, Not, And, Or, Compare, compares}
+use Rattle.spl_core.specs.Expression.{Expression, Number, Variable, Neg, Add, Sub, Mul, Div, Rem, State, eval}
+use Rattle.spl_core.specs.Condition.{Condition, Constant, Random, Not, And, Or, Compare, comparison}
 use Rattle.spl_core.specs.Graph.{Move, skips, assigns, havocs, tests, calls, starts, Arc, Graph, proc_of, main_of, arcs_out}
 use Rattle.spl_runs.specs.Runs.{copied, values_of, with_values, outputs_of, Frame, frame, Stack}
 use Rattle.spl_runs.specs.Choices.{Choice, Given}
@@ -10,14 +10,21 @@ use Rattle.spl_runs.specs.Word.{fits}
 
 -- ---- values past 128 bits
 
+-- a value is past 128 bits; a missing one isn't
+abbrev pub is_past : Option ℤ → Bool
+is_past None = false
+is_past (Some x) = not (fits x)
+
 -- some part of an expression, the whole included, has a value past 128 bits
 abbrev pub is_wide : Expression → State → Bool
-is_wide (Number k) s = not (fits (eval (Number k) s))
-is_wide (Variable v) s = not (fits (eval (Variable v) s))
-is_wide (Neg a) s = is_wide a s || not (fits (eval (Neg a) s))
-is_wide (Add a b) s = is_wide a s || (is_wide b s || not (fits (eval (Add a b) s)))
-is_wide (Sub a b) s = is_wide a s || (is_wide b s || not (fits (eval (Sub a b) s)))
-is_wide (Mul a b) s = is_wide a s || (is_wide b s || not (fits (eval (Mul a b) s)))
+is_wide (Number k) s = is_past (eval (Number k) s)
+is_wide (Variable v) s = is_past (eval (Variable v) s)
+is_wide (Neg a) s = is_wide a s || is_past (eval (Neg a) s)
+is_wide (Add a b) s = is_wide a s || (is_wide b s || is_past (eval (Add a b) s))
+is_wide (Sub a b) s = is_wide a s || (is_wide b s || is_past (eval (Sub a b) s))
+is_wide (Mul a b) s = is_wide a s || (is_wide b s || is_past (eval (Mul a b) s))
+is_wide (Div a b) s = is_wide a s || (is_wide b s || is_past (eval (Div a b) s))
+is_wide (Rem a b) s = is_wide a s || (is_wide b s || is_past (eval (Rem a b) s))
 
 -- some part of a condition has a value past 128 bits: an operand of `and` or `or` that can't matter counts too
 abbrev pub is_wide_condition : Condition → State → Bool
@@ -34,6 +41,11 @@ abbrev pub same_bool : Bool → Bool → Bool
 same_bool true b = b
 same_bool false b = not b
 
+-- a comparison comes out as wanted; neither way where it's missing
+abbrev pub comes_out : Option Bool → Bool → Bool
+comes_out None wanted = false
+comes_out (Some b) wanted = same_bool b wanted
+
 abbrev pub may : Condition → State → Bool → Bool
 may (Constant value) s b = same_bool value b
 may Random s b = true
@@ -42,7 +54,7 @@ may (And c d) s true = may c s true && may d s true
 may (And c d) s false = may c s false || may d s false
 may (Or c d) s true = may c s true || may d s true
 may (Or c d) s false = may c s false && may d s false
-may (Compare r a b) s wanted = same_bool (compares r (eval a s) (eval b s)) wanted
+may (Compare r a b) s wanted = comes_out (comparison r (eval a s) (eval b s)) wanted
 
 -- ---- one step within a frame
 
@@ -61,8 +73,13 @@ one_value [] s x = no_change
 one_value (y ∷ []) s x = now (slice_set s x y)
 one_value (y ∷ z ∷ ys) s x = no_change
 
+-- a missing value can't be assigned
+abbrev pub assigned_to : ℕ → State → Option ℤ → Change
+assigned_to x s None = no_change
+assigned_to x s (Some y) = now (slice_set s x y)
+
 abbrev pub assigned : Expression → ℕ → State → Change
-assigned e x s = if is_wide e s then past else now (slice_set s x (eval e s))
+assigned e x s = if is_wide e s then past else assigned_to x s (eval e s)
 
 abbrev pub tested : Condition → Bool → State → Change
 tested c wanted s = if is_wide_condition c s then past else (if may c s wanted then now s else no_change)

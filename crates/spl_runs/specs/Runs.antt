@@ -1,5 +1,5 @@
 -- Runs of a core over integers without limit.
-use Rattle.std.specs.Prelude.{◌≡◌, ℕ, ◌<◌, List, [], ◌∷◌, length, map, take, drop, slice_set, ℤ}
+use Rattle.std.specs.Prelude.{◌≡◌, ℕ, ◌<◌, List, [], ◌∷◌, length, map, take, drop, slice_set, Some, ℤ}
 use Rattle.spl_core.specs.declared.parts.Proc.{Proc}
 use Rattle.spl_core.specs.Expression.{State, value_of, eval}
 use Rattle.spl_core.specs.Condition.{May}
@@ -12,10 +12,10 @@ abbrev pub copied : List Copy → State → State
 copied [] s = s
 copied (copy ∷ copies) s = copied copies (slice_set s copy.target (value_of s copy.origin))
 
--- a call has no step of its own within a frame
+-- an assigned value isn't missing; a call has no step of its own within a frame
 abbrev pub Flow : Move → State → State → Type 0
 Flow skips s t = t ≡ s
-Flow (assigns x e) s t = t ≡ slice_set s x (eval e s)
+Flow (assigns x e) s t = (y : ℤ) × (eval e s ≡ Some y) × (t ≡ slice_set s x y)
 Flow (havocs x) s t = (y : ℤ) × (t ≡ slice_set s x y)
 Flow (tests c wanted) s t = May c s wanted × (t ≡ s)
 Flow (calls callee args targets) s t = ⊥

@@ -143,7 +143,7 @@ fn follow(alloc: Global, core: &Core, out: &EdgesOut, choices: &Choices) -> Resu
 
 /// The run of a core with these choices, where each step is one of a run and each value in an expression or a condition is
 /// within 128 bits. Steps are tested in order. At one step the number of the edge and the count of values come first, then
-/// values past 128 bits, then whether the condition of a test may come out as the edge wants.
+/// values past 128 bits, then whether the assigned value is there and the condition of a test may come out as the edge wants.
 pub fn replay(alloc: Global, core: &Core, choices: &Choices) -> Result<Run, ReplayFault>
     requires { length choices.now.steps.items < 2 ^ 32 - 1 }
     ensures steps { Replays (replayed (graph_of core.now) (given_of choices.now)) result }

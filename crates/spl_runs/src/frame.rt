@@ -9,7 +9,7 @@ ghost use Rattle.spl_core.specs.Expression.{value_of};
 ghost use Rattle.spl_core.specs.Facts.{EdgeFits};
 ghost use Rattle.spl_runs.specs.Runs.{copied, values_of, with_values};
 
-use crate::value::{dimension, may, value};
+use crate::value::{Computed, dimension, may, value};
 use spl_core::{Action, Core, Edge, Span};
 use std::alloc::{AllocError, Global};
 
@@ -111,11 +111,12 @@ fn assign(core: &Core, target: u32, expr: u32, values: &mut [i128]) -> Result<()
     ensures { Changes (assigned (expr_at (exprs_in core.now) expr) target values.old) result values.new }
 {
     match value(core, expr, values) {
-        Some(x) => {
+        Computed::Is(x) => {
             set(values, target, x);
             Ok(())
         }
-        None => Err(StepFault::Wide),
+        Computed::Missing => Err(StepFault::NotARun),
+        Computed::Wide => Err(StepFault::Wide),
     }
 }
 

@@ -1,11 +1,11 @@
 //! Values of expressions and conditions within 128 bits.
 
 ghost use Rattle.std.specs.Prelude.{◌≡◌, ◌<◌, length, true};
-ghost use Rattle.spl_core.specs.Expression.{value_of};
+ghost use Rattle.spl_core.specs.Expression.{value_of, sum as sum_of, difference as difference_of, product as product_of, quotient as quotient_of, remainder as remainder_of};
 ghost use Rattle.spl_core.specs.Condition.{compares};
 ghost use Rattle.spl_core.specs.Graph.{expr_at, exprs_in, cond_at, conds_in};
 ghost use Rattle.spl_runs.specs.Word.{fits};
-ghost use Rattle.spl_runs.specs.Exact.{exact, exact_may, negated, sum_of, difference_of, product_of, joined, compared};
+ghost use Rattle.spl_runs.specs.Exact.{exact, exact_may, within, checked as checked_of, negated, combined, joined, compared};
 
 use spl_core::{Cmp, Core, CoreCond, CoreExpr, law_numbers};
 
@@ -18,55 +18,129 @@ pub(crate) fn dimension(values: &[i128], v: u32) -> i128
     if at < values.len() { values[at] } else { 0 }
 }
 
-fn negation(x: Option<i128>) -> Option<i128>
+/// What an expression computes within 128 bits.
+#[derive(Clone, Copy, Debug, Drop, PartialEq, Eq)]
+pub(crate) enum Computed {
+    /// The value or a part's value is past 128 bits.
+    Wide,
+    /// No part is past 128 bits, and there is no value, since a divisor is 0.
+    Missing,
+    /// The value.
+    Is(i128),
+}
+
+/// What a checked operation computed, which is none where the value is past 128 bits.
+fn checked(x: Option<i128>) -> Computed
+    ensures { result ≡ checked_of x }
+{
+    match x {
+        Some(x) => Computed::Is(x),
+        None => Computed::Wide,
+    }
+}
+
+fn negation(x: Computed) -> Computed
     ensures { result ≡ negated x }
 {
     match x {
-        Some(x) => x.checked_neg(),
-        None => None,
+        Computed::Wide => Computed::Wide,
+        Computed::Missing => Computed::Missing,
+        Computed::Is(x) => checked(x.checked_neg()),
     }
 }
 
-fn sum(x: Option<i128>, y: Option<i128>) -> Option<i128>
-    ensures { result ≡ sum_of x y }
+fn sum(x: Computed, y: Computed) -> Computed
+    ensures { result ≡ combined sum_of x y }
 {
     match (x, y) {
-        (Some(x), Some(y)) => x.checked_add(y),
-        _ => None,
+        (Computed::Is(x), Computed::Is(y)) => checked(x.checked_add(y)),
+        (Computed::Wide, _) => Computed::Wide,
+        (_, Computed::Wide) => Computed::Wide,
+        _ => Computed::Missing,
     }
 }
 
-fn difference(x: Option<i128>, y: Option<i128>) -> Option<i128>
-    ensures { result ≡ difference_of x y }
+fn difference(x: Computed, y: Computed) -> Computed
+    ensures { result ≡ combined difference_of x y }
 {
     match (x, y) {
-        (Some(x), Some(y)) => x.checked_sub(y),
-        _ => None,
+        (Computed::Is(x), Computed::Is(y)) => checked(x.checked_sub(y)),
+        (Computed::Wide, _) => Computed::Wide,
+        (_, Computed::Wide) => Computed::Wide,
+        _ => Computed::Missing,
     }
 }
 
-fn product(x: Option<i128>, y: Option<i128>) -> Option<i128>
-    ensures { result ≡ product_of x y }
+fn product(x: Computed, y: Computed) -> Computed
+    ensures { result ≡ combined product_of x y }
 {
     match (x, y) {
-        (Some(x), Some(y)) => x.checked_mul(y),
-        _ => None,
+        (Computed::Is(x), Computed::Is(y)) => checked(x.checked_mul(y)),
+        (Computed::Wide, _) => Computed::Wide,
+        (_, Computed::Wide) => Computed::Wide,
+        _ => Computed::Missing,
     }
 }
 
-/// The value of an expression; none if it or a part of it is past 128 bits.
-pub(crate) fn value(core: &Core, e: u32, values: &[i128]) -> Option<i128>
+/// The quotient of two integers, truncated toward zero. That of -2^127 by -1 is past 128 bits.
+fn divided(x: i128, y: i128) -> Computed
+    ensures { result ≡ within (quotient_of x y) }
+{
+    if y == 0 {
+        Computed::Missing
+    } else {
+        checked(x.checked_div(y))
+    }
+}
+
+/// The remainder of two integers. That of -2^127 by -1 is 0 and within 128 bits, though their quotient isn't.
+fn left_over(x: i128, y: i128) -> Computed
+    ensures { result ≡ within (remainder_of x y) }
+{
+    if y == 0 {
+        Computed::Missing
+    } else {
+        Computed::Is(x.wrapping_rem(y))
+    }
+}
+
+fn quotient(x: Computed, y: Computed) -> Computed
+    ensures { result ≡ combined quotient_of x y }
+{
+    match (x, y) {
+        (Computed::Is(x), Computed::Is(y)) => divided(x, y),
+        (Computed::Wide, _) => Computed::Wide,
+        (_, Computed::Wide) => Computed::Wide,
+        _ => Computed::Missing,
+    }
+}
+
+fn remainder(x: Computed, y: Computed) -> Computed
+    ensures { result ≡ combined remainder_of x y }
+{
+    match (x, y) {
+        (Computed::Is(x), Computed::Is(y)) => left_over(x, y),
+        (Computed::Wide, _) => Computed::Wide,
+        (_, Computed::Wide) => Computed::Wide,
+        _ => Computed::Missing,
+    }
+}
+
+/// The value of an expression within 128 bits.
+pub(crate) fn value(core: &Core, e: u32, values: &[i128]) -> Computed
     requires { e < length core.now.exprs }
     ensures { result ≡ exact (expr_at (exprs_in core.now) e) values.now }
 {
     law_numbers();
     match core.expr_at(e) {
-        CoreExpr::Number(n) => Some(i128::from(n)),
-        CoreExpr::Variable(v) => Some(dimension(values, v)),
+        CoreExpr::Number(n) => Computed::Is(i128::from(n)),
+        CoreExpr::Variable(v) => Computed::Is(dimension(values, v)),
         CoreExpr::Neg(a) => negation(value(core, a, values)),
         CoreExpr::Add(a, b) => sum(value(core, a, values), value(core, b, values)),
         CoreExpr::Sub(a, b) => difference(value(core, a, values), value(core, b, values)),
         CoreExpr::Mul(a, b) => product(value(core, a, values), value(core, b, values)),
+        CoreExpr::Div(a, b) => quotient(value(core, a, values), value(core, b, values)),
+        CoreExpr::Rem(a, b) => remainder(value(core, a, values), value(core, b, values)),
     }
 }
 
@@ -93,13 +167,15 @@ fn holds(cmp: Cmp, x: i128, y: i128) -> bool
     }
 }
 
-/// Whether a comparison comes out as wanted.
-fn comparison(cmp: Cmp, wanted: bool, x: Option<i128>, y: Option<i128>) -> Option<bool>
+/// Whether a comparison comes out as wanted; it comes out neither way where a value is missing.
+fn comparison(cmp: Cmp, wanted: bool, x: Computed, y: Computed) -> Option<bool>
     ensures { result ≡ compared cmp wanted x y }
 {
     match (x, y) {
-        (Some(x), Some(y)) => Some(holds(cmp, x, y) == wanted),
-        _ => None,
+        (Computed::Is(x), Computed::Is(y)) => Some(holds(cmp, x, y) == wanted),
+        (Computed::Wide, _) => None,
+        (_, Computed::Wide) => None,
+        _ => Some(false),
     }
 }
 

@@ -1,5 +1,5 @@
 -- Expressions that wait on a stack.
-use Rattle.std.proofs.Common.{◌≡◌, ℕ, ◌+◌, ◌<◌, not, List, [], ◌∷◌, ◌++◌, length, sum_by, Result, Ok, Err, refl, sym, ap, ◌∙◌, subst, arith, append_assoc}
+use Rattle.std.proofs.Common.{◌≡◌, ℕ, ◌+◌, ◌<◌, List, [], ◌∷◌, ◌++◌, length, sum_by, Result, Ok, Err, refl, sym, ap, ◌∙◌, subst, arith, append_assoc}
 use Rattle.std.proofs.lemmas.List.{append-nil}
 use Rattle.std.proofs.lemmas.List.Elements.{All-push}
 use Rattle.std.proofs.lemmas.List.Sums.{sum_by-append}
@@ -10,13 +10,11 @@ use Rattle.spl_tree.specs.Program.{ExprTree, binary}
 use Rattle.spl_tree.specs.Meaning.{expr_at}
 use Rattle.spl_types.specs.declared.fault.CheckFault.{CheckFault}
 use Rattle.spl_types.specs.declared.fault.CheckFault.TheVariants.{NoMemory}
-use Rattle.spl_types.specs.declared.fault.CheckRule.TheVariants.{UnsupportedOperator}
 use Rattle.spl_types.specs.declared.exprs.Sort.{Sort as CodeSort}
 use Rattle.spl_types.specs.declared.exprs.Wanted.{Wanted}
-use Rattle.spl_types.specs.Checks.{Check, check, first_broken, operand_sort, is_division, expr_checks}
+use Rattle.spl_types.specs.Checks.{Check, first_broken, operand_sort, expr_checks}
 use Rattle.spl_types.specs.Faults.{Kept, Faulted}
 use Rattle.spl_types.specs.Sorts.{sort_of, inner_checks, node_count, waiting_checks, waiting_count, AreThere, LeavesChildren, Pushed}
-use Rattle.spl_types.proofs.Firsts.{broken_after}
 
 -- the checks of one item
 abbrev pub checks_of : List (List ℕ) → List ExprTree → Wanted → List Check
@@ -50,9 +48,9 @@ leaves_one names trees exprs old new w (Err e) there lt h = no_memory (checks_of
 
 -- two children are left, the first one on top
 pub leaves_two : (names : List (List ℕ)) (trees : List ExprTree) (exprs : List Expr) (op : BinOp) (at : ℕ) (s : CodeSort) (a b : ExprId) (old mid new : List Wanted) (r : Result (Unit {0}) CheckFault)
-    → AreThere exprs old → a.0 < length exprs → b.0 < length exprs → sort_of s ≡ operand_sort op → Kept (check UnsupportedOperator at (not (is_division op)) ∷ []) → mid ≡ old ++ record { expr = b; sort = s } ∷ [] → Pushed mid (record { expr = a; sort = s }) new r
+    → AreThere exprs old → a.0 < length exprs → b.0 < length exprs → sort_of s ≡ operand_sort op → mid ≡ old ++ record { expr = b; sort = s } ∷ [] → Pushed mid (record { expr = a; sort = s }) new r
     → LeavesChildren names trees exprs (inner_checks names (binary op (expr_at trees a) (expr_at trees b) at)) (node_count (binary op (expr_at trees a) (expr_at trees b) at)) old new r
-leaves_two names trees exprs op at s a b old mid new (Ok v) there la lb e k m h =
+leaves_two names trees exprs op at s a b old mid new (Ok v) there la lb e m h =
     let P : List Wanted → Type 0 = λ l. AreThere exprs l in
     let ca : List Check = expr_checks names (operand_sort op) (expr_at trees a) in
     let cb : List Check = expr_checks names (operand_sort op) (expr_at trees b) in
@@ -65,11 +63,11 @@ leaves_two names trees exprs op at s a b old mid new (Ok v) there la lb e k m h 
     ∙ (ap (λ l. checks_of names trees wa ++ l) (waiting_push names trees old wb)
     ∙ (ap (λ t. expr_checks names t (expr_at trees a) ++ (expr_checks names t (expr_at trees b) ++ waiting_checks names trees old)) e
     ∙ sym (append_assoc ca cb (waiting_checks names trees old)))))) in (
-      ap first_broken both ∙ sym (broken_after (check UnsupportedOperator at (not (is_division op)) ∷ []) ((ca ++ cb) ++ waiting_checks names trees old) k),
+      ap first_broken both,
       subst P (sym h) (All-push (λ (x : Wanted). x.expr.0 < length exprs) mid wa (subst P (sym m) (All-push (λ (x : Wanted). x.expr.0 < length exprs) old wb there lb)) la),
       omega (arith, ap (λ l. waiting_count trees l) h, count_push trees mid wa, ap (λ l. waiting_count trees l) m, count_push trees old wb),
     )
-leaves_two names trees exprs op at s a b old mid new (Err e) there la lb q k m h = no_memory (inner_checks names (binary op (expr_at trees a) (expr_at trees b) at) ++ waiting_checks names trees old) e h
+leaves_two names trees exprs op at s a b old mid new (Err e) there la lb q m h = no_memory (inner_checks names (binary op (expr_at trees a) (expr_at trees b) at) ++ waiting_checks names trees old) e h
 
 -- the item on top
 pub popped : (names : List (List ℕ)) (trees : List ExprTree) (items rest : List Wanted) (w : Wanted) → items ≡ rest ++ w ∷ [] → waiting_checks names trees items ≡ checks_of names trees w ++ waiting_checks names trees rest

@@ -7,7 +7,7 @@ use Rattle.spl_tree.specs.declared.parts.BinOp.{BinOp}
 use Rattle.spl_tree.specs.declared.parts.BinOp.TheVariants.{Or, And, Eq, Ne, Lt, Le, Gt, Ge, Add, Sub, Mul, Div, Rem}
 use Rattle.spl_tree.specs.Program.{Named, Kind, int_kind, real_kind, other_kind, Declared, ExprTree, number, variable, true_value, false_value, random_value, negative, opposite, binary, StmtTree, skip, halt, fail, assume, assign, call, if_then, if_else, while_do, BlockTree, empty, more, ProcMeaning, Program, places_of}
 use Rattle.spl_types.specs.declared.fault.CheckRule.{CheckRule}
-use Rattle.spl_types.specs.declared.fault.CheckRule.TheVariants.{UnsupportedType, UnsupportedOperator, DuplicateName, UnknownVariable, UnknownProcedure, WrongCount, RepeatedTarget, WrongKind, TooManyVariables, TooManyProcedures, TooManyPoints}
+use Rattle.spl_types.specs.declared.fault.CheckRule.TheVariants.{UnsupportedType, DuplicateName, UnknownVariable, UnknownProcedure, WrongCount, RepeatedTarget, WrongKind, TooManyVariables, TooManyProcedures, TooManyPoints}
 
 -- a check: its rule, the offset at which it's made, and whether the program keeps it
 pub record Check : Type 0 where
@@ -104,12 +104,6 @@ result_sort Mul = a_number
 result_sort Div = a_number
 result_sort Rem = a_number
 
--- `/` and `%`, which aren't built yet
-abbrev pub is_division : BinOp → Bool
-is_division Div = true
-is_division Rem = true
-is_division _ = false
-
 abbrev pub sort_check : Sort → Sort → ℕ → Check
 sort_check wanted own at = check WrongKind at (is_sort wanted own)
 
@@ -124,7 +118,6 @@ expr_checks names wanted (negative a at) = sort_check wanted a_number at ∷ exp
 expr_checks names wanted (opposite a at) = sort_check wanted a_condition at ∷ expr_checks names a_condition a
 expr_checks names wanted (binary op a b at) =
     sort_check wanted (result_sort op) at
-    ∷ check UnsupportedOperator at (not (is_division op))
     ∷ (expr_checks names (operand_sort op) a ++ expr_checks names (operand_sort op) b)
 
 -- the right side of an assignment: `random` alone is any integer

@@ -1,5 +1,5 @@
 -- The sort of an expression, and the checks below it; a stack of expressions with the sorts that they're wanted to have.
-use Rattle.std.specs.Prelude.{◌≡◌, ℕ, ◌+◌, ◌<◌, not, List, [], ◌∷◌, ◌++◌, length, sum_by, Result, MatchResult}
+use Rattle.std.specs.Prelude.{◌≡◌, ℕ, ◌+◌, ◌<◌, List, [], ◌∷◌, ◌++◌, length, sum_by, Result, MatchResult}
 use Rattle.std.specs.List.{All}
 use Rattle.spl_tree.specs.declared.parts.Expr.{Expr}
 use Rattle.spl_tree.specs.Program.{ExprTree, number, variable, true_value, false_value, random_value, negative, opposite, binary}
@@ -10,8 +10,8 @@ use Rattle.spl_types.specs.declared.exprs.Wanted.{Wanted}
 use Rattle.spl_types.specs.declared.fault.CheckFault.{CheckFault}
 use Rattle.spl_types.specs.declared.fault.CheckFault.TheVariants.{NoMemory}
 use Rattle.spl_types.specs.Faults.{Faulted}
-use Rattle.spl_types.specs.Checks.{Check, check, first_broken, Sort, a_number, a_condition, operand_sort, result_sort, is_division, is_among, expr_checks}
-use Rattle.spl_types.specs.declared.fault.CheckRule.TheVariants.{UnknownVariable, UnsupportedOperator}
+use Rattle.spl_types.specs.Checks.{Check, check, first_broken, Sort, a_number, a_condition, operand_sort, result_sort, is_among, expr_checks}
+use Rattle.spl_types.specs.declared.fault.CheckRule.TheVariants.{UnknownVariable}
 
 abbrev pub sort_of : CodeSort → Sort
 sort_of NumberSort = a_number
@@ -37,9 +37,7 @@ inner_checks names (false_value at) = []
 inner_checks names (random_value at) = []
 inner_checks names (negative a at) = expr_checks names a_number a
 inner_checks names (opposite a at) = expr_checks names a_condition a
-inner_checks names (binary op a b at) =
-    check UnsupportedOperator at (not (is_division op))
-    ∷ (expr_checks names (operand_sort op) a ++ expr_checks names (operand_sort op) b)
+inner_checks names (binary op a b at) = expr_checks names (operand_sort op) a ++ expr_checks names (operand_sort op) b
 
 -- how many nodes an expression has
 abbrev pub node_count : ExprTree → ℕ

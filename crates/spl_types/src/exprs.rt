@@ -4,7 +4,7 @@ ghost use Rattle.std.specs.Prelude.{◌≡◌, ◌<◌, ℕ, List, ◌∷◌, []
 ghost use Rattle.spl_tree.specs.Program.{ExprTree};
 ghost use Rattle.spl_tree.specs.Facts.{ExprFits};
 ghost use Rattle.spl_tree.specs.Meaning.{name_of, names_in, exprs_in, expr_at, expr_over};
-ghost use Rattle.spl_types.specs.Checks.{check, is_among, is_division, is_sort as same_sort, operand_sort as operands_of, result_sort, expr_checks};
+ghost use Rattle.spl_types.specs.Checks.{check, is_among, is_sort as same_sort, operand_sort as operands_of, result_sort, expr_checks};
 ghost use Rattle.spl_types.specs.Faults.{Answers};
 ghost use Rattle.spl_types.specs.Sorts.{sort_of, own_sort as own_of, inner_checks, node_count, AreThere, LeavesChildren, Pushed};
 
@@ -85,7 +85,6 @@ fn inside(
         Expr::Neg(a) => push(waiting, a, Sort::Number),
         Expr::Not(a) => push(waiting, a, Sort::Condition),
         Expr::Binary(op, a, b) => {
-            demand(!divides(op), CheckRule::UnsupportedOperator, at)?;
             let sort = operand_sort(op);
             push(waiting, b, sort)?;
             push(waiting, a, sort)
@@ -144,11 +143,4 @@ fn operand_sort(op: BinOp) -> Sort
         BinOp::Or | BinOp::And => Sort::Condition,
         _ => Sort::Number,
     }
-}
-
-/// Whether an operator divides.
-fn divides(op: BinOp) -> bool
-    ensures { result ≡ is_division op }
-{
-    matches!(op, BinOp::Div | BinOp::Rem)
 }

@@ -5,7 +5,6 @@ use thiserror::Error;
 #[derive(Clone, Copy, Debug, Drop, PartialEq, Eq)]
 pub enum CheckRule {
     UnsupportedType,
-    UnsupportedOperator,
     DuplicateName,
     UnknownVariable,
     UnknownProcedure,

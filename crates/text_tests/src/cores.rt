@@ -26,7 +26,7 @@ struct Row {
 
 /// Texts and their cores. A dimension is `v` and its number; `if` and `unless` are tests; a call has its arguments, then its
 /// targets.
-const ROWS: [Row; 12] = [
+const ROWS: [Row; 13] = [
     Row {
         text: "begin end",
         core: "0 0 0 0 1; | 0 0 | 0>1 start() ",
@@ -62,6 +62,12 @@ const ROWS: [Row; 12] = [
         core: "0 0 1 0 2; | 0 0 0 | 0>1 start() 1>2 v0=(v0*v0) ",
         fails: "",
         places: "11 16 27 ",
+    },
+    Row {
+        text: "var x:int, y:int; begin x = x / 2 % -y; end",
+        core: "0 0 2 0 2; | 0 0 0 | 0>1 start() 1>2 v0=((v0/2)%-v1) ",
+        fails: "",
+        places: "18 23 39 ",
     },
     Row {
         text: "var x:int; begin while x < 1 do if x < 1 then fail; else x = random; endif; done; end",
@@ -131,6 +137,14 @@ fn expr_text(alloc: Global, core: &Core, e: u32) -> Result<String, AllocError>
         CoreExpr::Mul(a, b) => {
             let (a, b) = (expr_text(alloc, core, a)?, expr_text(alloc, core, b)?);
             format!(in alloc; "({a}*{b})")
+        }
+        CoreExpr::Div(a, b) => {
+            let (a, b) = (expr_text(alloc, core, a)?, expr_text(alloc, core, b)?);
+            format!(in alloc; "({a}/{b})")
+        }
+        CoreExpr::Rem(a, b) => {
+            let (a, b) = (expr_text(alloc, core, a)?, expr_text(alloc, core, b)?);
+            format!(in alloc; "({a}%{b})")
         }
     }
 }

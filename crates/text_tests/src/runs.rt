@@ -9,7 +9,7 @@ use std::test::Fail;
 
 /// Texts, choices, and the top frames of the run (the point, the number of frames, the values), one on each line; or why
 /// there is none.
-const RUNS: [(&str, &str, &str); 19] = [
+const RUNS: [(&str, &str, &str); 27] = [
     (
         "var i:int; begin i = 0; while i < 10 do i = i + 1; done; end",
         "7\n0\n0\n0\n0",
@@ -44,6 +44,42 @@ const RUNS: [(&str, &str, &str); 19] = [
         "var x:int; begin x = x * x; end",
         "-13043817825332782212\n0\n0",
         "0 1 -13043817825332782212\n1 1 -13043817825332782212\n2 1 170141183460469231722567801800623612944\n",
+    ),
+    (
+        "var x:int; begin x = 7 / x; end",
+        "-2\n0\n0",
+        "0 1 -2\n1 1 -2\n2 1 -3\n",
+    ),
+    ("var x:int; begin x = 7 / x; end", "0\n0\n0", "not a run 2"),
+    (
+        "var x:int; begin x = -7 % x; end",
+        "2\n0\n0",
+        "0 1 2\n1 1 2\n2 1 -1\n",
+    ),
+    (
+        "var x:int; begin if 7 / x > 1 or x == 0 then skip; endif; end",
+        "0\n0\n0",
+        "0 1 0\n1 1 0\n2 1 0\n",
+    ),
+    (
+        "var x:int; begin if 7 / x > 1 or x == 0 then skip; endif; end",
+        "0\n0\n1",
+        "not a run 2",
+    ),
+    (
+        "var x:int; begin x = x / -1; end",
+        "-170141183460469231731687303715884105728\n0\n0",
+        "wide 2",
+    ),
+    (
+        "var x:int; begin x = x % -1; end",
+        "-170141183460469231731687303715884105728\n0\n0",
+        "0 1 -170141183460469231731687303715884105728\n1 1 -170141183460469231731687303715884105728\n2 1 0\n",
+    ),
+    (
+        "var x:int; begin x = 1 / 0 + x * x; end",
+        "18446744073709551616\n0\n0",
+        "wide 2",
     ),
     ("var x:int; begin x = x * x; end", "x", "bad choices 0"),
     (

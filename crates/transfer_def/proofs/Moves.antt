@@ -31,7 +31,7 @@ meets-copy_value (c ∷ copies) v s l o h =
     let first = All-head (IsCopyOver v.dims) c copies o in
     meets-copy_value copies (assign_value c.target (Variable c.origin) v) _
     (length-set s c.target (value_of s c.origin) ∙ l) (All-tail (IsCopyOver v.dims) c copies o)
-    (meets-assign_value c.target (Variable c.origin) v s l first.origin h)
+    (meets-assign_value c.target (Variable c.origin) v s (value_of s c.origin) l first.origin refl h)
 
 value-copy_value : (copies : List Copy) (v : Octagon) → IsOctagon v → IsOctagon (copy_value copies v)
 unfolding copy_value
@@ -47,7 +47,7 @@ dims-copy_value (c ∷ copies) v = dims-copy_value copies (assign_value c.target
 
 pub meets-move_value : (move : Move) (v : Octagon) (s t : State) → length s ≡ v.dims → IsMoveOver v.dims move → Flow move s t → MeetsOctagon s v → MeetsOctagon t (move_value move v)
 meets-move_value skips v s t l o f h = subst (λ u. MeetsOctagon u v) (sym f) h
-meets-move_value (assigns x e) v s t l o f h = subst (λ u. MeetsOctagon u (assign_value x e v)) (sym f) (meets-assign_value x e v s l o.1 h)
+meets-move_value (assigns x e) v s t l o f h = subst (λ u. MeetsOctagon u (assign_value x e v)) (sym f.2) (meets-assign_value x e v s f.0 l o.1 f.1 h)
 meets-move_value (havocs x) v s t l o f h = subst (λ u. MeetsOctagon u (forget_value x v)) (sym f.1) (meets-forget_value x v s f.0 h)
 meets-move_value (tests c wanted) v s t l o f h = subst (λ u. MeetsOctagon u (test_value c wanted v)) (sym f.1) (meets-test_value c wanted v s o f.0 h)
 meets-move_value (calls callee args targets) v s t l o f h = absurd f

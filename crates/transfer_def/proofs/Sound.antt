@@ -1,5 +1,5 @@
 -- The successor of a state that meets a matrix meets the matrix after an assignment.
-use Rattle.std.proofs.Common.{◌≡◌, ◌⊎◌, ℕ, ◌+◌, ◌*◌, ◌/◌, ◌<◌, ◌++◌, ◌∷◌, ◌||◌, Bool, true, false, cond, List, [], length, set, get_or, ℤ, pos, ◌+ℤ◌, ◌-ℤ◌, ◌*ℤ◌, ◌≤ℤ◌, refl, sym, ap, subst, inl, inr, arith, nat_eq, ◌∙◌, length-append, add-one}
+use Rattle.std.proofs.Common.{◌≡◌, ◌⊎◌, ℕ, ◌+◌, ◌*◌, ◌/◌, ◌<◌, ◌++◌, ◌∷◌, ◌||◌, Bool, true, false, cond, List, [], length, set, get_or, Some, ℤ, pos, ◌+ℤ◌, ◌-ℤ◌, ◌*ℤ◌, ◌≤ℤ◌, refl, sym, ap, subst, inl, inr, arith, nat_eq, ◌∙◌, length-append, add-one}
 use Rattle.std.specs.Option.{option_and_then}
 use Rattle.std.proofs.lemmas.Int.{ints}
 use Rattle.std.proofs.lemmas.Bool.{eqb-false, or_parts}
@@ -81,15 +81,15 @@ Reads-grown n f s x y e none h = record {
 no_difference : (x : ℤ) → (x -ℤ x) ≤ℤ pos 0
 no_difference x = omega (arith, ints)
 
-Reads-expression : (n : ℕ) (e : Expression) (m : Matrix) (s : List ℤ) → length s ≡ n → IsOver n e → Meets s m
-    → Reads (length (extended_ranges n m)) (linear_form (ranges_of n m) e) (grown s (eval e s)) (eval e s)
-Reads-expression n e m s l o h =
+Reads-expression : (n : ℕ) (e : Expression) (m : Matrix) (s : List ℤ) (y : ℤ) → length s ≡ n → IsOver n e → eval e s ≡ Some y → Meets s m
+    → Reads (length (extended_ranges n m)) (linear_form (ranges_of n m) e) (grown s y) y
+Reads-expression n e m s y l o q h =
     let size = length-ranges_of n m in
     let over : IsOver (length (ranges_of n m)) e = rw size o in
-    let reads = Reads-linear_form (ranges_of n m) e s over (in_ranges-ranges_of n m s h) in
-    let reads' : Reads n (linear_form (ranges_of n m) e) s (eval e s) = rw size at reads in
+    let reads = Reads-linear_form (ranges_of n m) e s y over (in_ranges-ranges_of n m s h) q in
+    let reads' : Reads n (linear_form (ranges_of n m) e) s y = rw size at reads in
     let past = coefficient_past (linear_form (ranges_of n m) e) n (omega (arith, length-linear_form (ranges_of n m) e)) in
-    rw (length-extended_ranges n m) (Reads-grown n (linear_form (ranges_of n m) e) s (eval e s) (eval e s) l past reads')
+    rw (length-extended_ranges n m) (Reads-grown n (linear_form (ranges_of n m) e) s y y l past reads')
 
 Reads-new : (n : ℕ) (m : Matrix) (s : List ℤ) (y : ℤ) → length s ≡ n → Reads (length (extended_ranges n m)) (variable_form (n + 1) n) (grown s y) y
 Reads-new n m s y l =
@@ -97,14 +97,13 @@ Reads-new n m s y l =
     (subst (Reads (n + 1) (variable_form (n + 1) n) (grown s y)) (value_at-grown_last s y n l)
     (Reads-variable_form (n + 1) n (grown s y) (omega arith)))
 
-pub meets-equated : (n : ℕ) (e : Expression) (m : Matrix) (s : List ℤ) → length s ≡ n → IsOver n e → Meets s m → MeetsValue (grown s (eval e s)) (equated n e m)
+pub meets-equated : (n : ℕ) (e : Expression) (m : Matrix) (s : List ℤ) (y : ℤ) → length s ≡ n → IsOver n e → eval e s ≡ Some y → Meets s m → MeetsValue (grown s y) (equated n e m)
 unfolding equated form_minus_new new_minus_form
-meets-equated n e m s l o h =
-    let y = eval e s in
+meets-equated n e m s y l o q h =
     let t = grown s y in
     let ranges = extended_ranges n m in
     let held = in_ranges-extended n m s y l h in
-    let value = Reads-expression n e m s l o h in
+    let value = Reads-expression n e m s y l o q h in
     let new = Reads-new n m s y l in
     let form = linear_form (ranges_of n m) e in
     let var = variable_form (n + 1) n in
@@ -118,21 +117,20 @@ meets-equated n e m s l o h =
 one_target : (x : ℕ) → AreDistinct (x ∷ [])
 one_target x i j p q = absurd (omega arith)
 
-pub meets-assigned : (n x : ℕ) (e : Expression) (m : Matrix) (s : List ℤ) → length s ≡ n → IsOver n e → Meets s m → MeetsValue (set s x (eval e s)) (assigned n x e m)
+pub meets-assigned : (n x : ℕ) (e : Expression) (m : Matrix) (s : List ℤ) (y : ℤ) → length s ≡ n → IsOver n e → eval e s ≡ Some y → Meets s m → MeetsValue (set s x y) (assigned n x e m)
 unfolding assigned
-meets-assigned n x e m s l o k =
-    let y = eval e s in
+meets-assigned n x e m s y l o q k =
     let t = grown s y in
     meets-mapped t (set s x y) (moved n (x ∷ [])) (option_and_then tight (equated n e m))
     (λ b g. meets-moved n (x ∷ []) (y ∷ []) s b l refl (one_target x) g)
-    (meets-and_then t t tight (equated n e m) (λ b g. meets-tight t b g) (meets-equated n e m s l o k))
+    (meets-and_then t t tight (equated n e m) (λ b g. meets-tight t b g) (meets-equated n e m s y l o q k))
 
 -- ---- the laws
 
-pub meets-assign_value : (x : ℕ) (e : Expression) (v : Octagon) (s : List ℤ) → length s ≡ v.dims → IsOver v.dims e → MeetsOctagon s v → MeetsOctagon (set s x (eval e s)) (assign_value x e v)
+pub meets-assign_value : (x : ℕ) (e : Expression) (v : Octagon) (s : List ℤ) (y : ℤ) → length s ≡ v.dims → IsOver v.dims e → eval e s ≡ Some y → MeetsOctagon s v → MeetsOctagon (set s x y) (assign_value x e v)
 unfolding assign_value
-meets-assign_value x e v s l o k =
-    meets-and_then s (set s x (eval e s)) (assigned v.dims x e) v.matrix (λ m h. meets-assigned v.dims x e m s l o h) k
+meets-assign_value x e v s y l o q k =
+    meets-and_then s (set s x y) (assigned v.dims x e) v.matrix (λ m h. meets-assigned v.dims x e m s y l o q h) k
 
 within-forgotten_entry : (x : ℕ) (m : Matrix) (s : List ℤ) (y : ℤ) (i j : ℕ) → Meets s m → Within (difference (set s x y) i j) (forgotten_entry x m i j)
 unfolding forgotten_entry

@@ -4,7 +4,7 @@ use Rattle.spl_core.specs.Graph.{expr_at, exprs_in}
 use Rattle.interval_form.specs.Interval.{point}
 use Rattle.interval_form.specs.Linear.{constant_form}
 use Rattle.interval_form.specs.Sparse.{form_in}
-use Rattle.interval_form.proofs.Nodes.{node, parts_below, number-word, linear-number, linear-variable, linear-neg, linear-add, linear-sub, linear-mul}
+use Rattle.interval_form.proofs.Nodes.{node, parts_below, number-word, linear-number, linear-variable, linear-neg, linear-add, linear-sub, linear-mul, linear-div, linear-rem}
 use Rattle.interval_form.proofs.expressions.+linearise.Goals as goal
 
 pub returns-in_ok-form-in-Number-clause-form : goal.returns-in_ok-form-in-Number-clause-form
@@ -49,3 +49,17 @@ returns-in_ok-form-in-Mul-clause-form g t c =
     let trees = exprs_in c.args.core.now in
     let e = node c.args.core.now c.law_numbers.ensures c.in-Mul.ensures.known c.args.expr (expr.Mul c.in-Mul.a c.in-Mul.b) c.requires.known c.in-Mul.ensures.found in
     c.in_ok-form-in-Mul.ensures.form ∙ linear-mul ranges (form_in (length ranges) c.in_ok-left-in-Mul.left) (form_in (length ranges) c.in_ok-right-in-Mul.right) (expr_at trees c.in-Mul.a) (expr_at trees c.in-Mul.b) (expr_at trees c.args.expr) c.in_ok-left-in-Mul.ensures.form c.in_ok-right-in-Mul.ensures.form e
+
+pub returns-in_ok-right-in-Div-clause-form : goal.returns-in_ok-right-in-Div-clause-form
+returns-in_ok-right-in-Div-clause-form g t c =
+    let ranges = g.R.Ranges.intervals c.args.ranges.now in
+    let trees = exprs_in c.args.core.now in
+    let e = node c.args.core.now c.law_numbers.ensures c.in-Div.ensures.known c.args.expr (expr.Div c.in-Div.a c.in-Div.b) c.requires.known c.in-Div.ensures.found in
+    c.quotient-form.ensures.form ∙ linear-div ranges (form_in (length ranges) c.in_ok-left-in-Div.left) (form_in (length ranges) c.in_ok-right-in-Div.right) (expr_at trees c.in-Div.a) (expr_at trees c.in-Div.b) (expr_at trees c.args.expr) c.in_ok-left-in-Div.ensures.form c.in_ok-right-in-Div.ensures.form e
+
+pub returns-in_ok-right-in-Rem-clause-form : goal.returns-in_ok-right-in-Rem-clause-form
+returns-in_ok-right-in-Rem-clause-form g t c =
+    let ranges = g.R.Ranges.intervals c.args.ranges.now in
+    let trees = exprs_in c.args.core.now in
+    let e = node c.args.core.now c.law_numbers.ensures c.in-Rem.ensures.known c.args.expr (expr.Rem c.in-Rem.a c.in-Rem.b) c.requires.known c.in-Rem.ensures.found in
+    c.remainder-form.ensures.form ∙ linear-rem ranges (form_in (length ranges) c.in_ok-left-in-Rem.left) (form_in (length ranges) c.in_ok-right-in-Rem.right) (expr_at trees c.in-Rem.a) (expr_at trees c.in-Rem.b) (expr_at trees c.args.expr) c.in_ok-left-in-Rem.ensures.form c.in_ok-right-in-Rem.ensures.form e

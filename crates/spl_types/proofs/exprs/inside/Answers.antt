@@ -1,11 +1,8 @@
-use Rattle.std.proofs.Common.{Bool, not, [], ◌∷◌, length, sym, subst}
+use Rattle.std.proofs.Common.{length, sym, subst}
 use Rattle.spl_tree.specs.declared.parts.Expr.{Expr}
 use Rattle.spl_tree.specs.Facts.{ExprFits}
 use Rattle.spl_tree.specs.Meaning.{names_in, exprs_in, expr_over}
 use Rattle.spl_types.specs.declared.exprs.Sort.TheVariants.{Number as NumberSort, Condition as ConditionSort}
-use Rattle.spl_types.specs.declared.fault.CheckRule.TheVariants.{UnsupportedOperator}
-use Rattle.spl_types.specs.Checks.{check}
-use Rattle.spl_types.specs.Faults.{Kept}
 use Rattle.spl_types.specs.Sorts.{inner_checks, node_count, LeavesChildren}
 use Rattle.spl_types.proofs.Waiting.{leaves_one, leaves_two}
 use Rattle.spl_types.proofs.exprs.inside.Goals as goal
@@ -29,6 +26,5 @@ returns-in_ok-push-in-Binary c =
     let t = c.args.tree.now in
     let F : Expr → Type 0 = λ e. ExprFits t (length t.exprs) e in
     let fits = subst F c.in-Binary.is c.requires.fits in
-    let K : Bool → Type 0 = λ b. Kept (check UnsupportedOperator c.args.at (not b) ∷ []) in
     let P : Expr → Type 0 = λ e. LeavesChildren c.args.names.now (exprs_in t) t.exprs (inner_checks c.args.names.now (expr_over (names_in t) (exprs_in t) e c.args.at)) (node_count (expr_over (names_in t) (exprs_in t) e c.args.at)) c.args.waiting.now.items c.push-in-Binary-2.new.waiting.items c.push-in-Binary-2.result in
-    subst P (sym c.in-Binary.is) (leaves_two c.args.names.now (exprs_in t) t.exprs c.in-Binary.op c.args.at c.operand_sort-sort.result c.in-Binary.a c.in-Binary.b c.args.waiting.now.items c.push-in-Binary.new.waiting.items c.push-in-Binary-2.new.waiting.items c.push-in-Binary-2.result c.requires.others fits.0 fits.1 c.operand_sort-sort.ensures (subst K c.divides.ensures c.in_ok-demand-in-Binary.ensures) c.in_ok-push-in-Binary.ensures c.push-in-Binary-2.ensures)
+    subst P (sym c.in-Binary.is) (leaves_two c.args.names.now (exprs_in t) t.exprs c.in-Binary.op c.args.at c.operand_sort-sort.result c.in-Binary.a c.in-Binary.b c.args.waiting.now.items c.push-in-Binary.new.waiting.items c.push-in-Binary-2.new.waiting.items c.push-in-Binary-2.result c.requires.others fits.0 fits.1 c.operand_sort-sort.ensures c.in_ok-push-in-Binary.ensures c.push-in-Binary-2.ensures)
