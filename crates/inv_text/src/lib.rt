@@ -1,0 +1,14 @@
+//! Invariants of the points of a core, and their text, a certificate.
+#![tactic(auto)]
+
+mod bound;
+mod half_bounds;
+mod invariants;
+mod laws;
+mod writing;
+
+pub use bound::InvBound;
+pub use invariants::Invariants;
+pub use laws::{law_example, law_order, law_text};
+pub use memory::NoMemory;
+pub use writing::write_invariants;
