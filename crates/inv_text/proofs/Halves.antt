@@ -1,26 +1,25 @@
 -- A matrix and the list of its finite half entries.
-use Rattle.std.proofs.Common.{◌≡◌, ℕ, zero, suc, ◌+◌, ◌*◌, ◌/◌, ◌<◌, ◌≤◌, ◌⊎◌, inl, inr, Bool, true, false, ◌&&◌, ◌||◌, cond, eqb, leb, List, [], ◌∷◌, ◌++◌, length, map, Option, Some, None, refl, sym, ap, subst, ◌∙◌, arith}
+use Rattle.std.proofs.Common.{◌≡◌, ℕ, ◌*◌, ◌/◌, ◌<◌, ◌⊎◌, inl, inr, Bool, true, false, cond, eqb, leb, List, [], ◌∷◌, ◌++◌, length, map, Some, None, refl, sym, ap, subst, ◌∙◌, arith}
 use Rattle.std.specs.Prelude.{ℤ, pos}
 use Rattle.std.proofs.lemmas.Bool.{false≢true}
 use Rattle.std.proofs.lemmas.Bool.Decides.{Decides-eqb, nat_tests}
 use Rattle.oct_def.specs.Bound.{Bound, least}
-use Rattle.oct_def.specs.Table.{Matrix, table, at}
-use Rattle.oct_def.specs.Matrix.{opposite, IsSquare, IsMatrix, IsEvenMatrix}
+use Rattle.oct_def.specs.Table.{Matrix, at}
+use Rattle.oct_def.specs.Matrix.{opposite, IsSquare, IsMatrix}
 use Rattle.oct_def.specs.Octagon.{top_entry, top_matrix}
-use Rattle.oct_def.proofs.Tables.{length-table, at-table, square-table, table-same, same-matrices}
+use Rattle.oct_def.proofs.Tables.{length-table, at-table, square-table, same-matrices}
 use Rattle.oct_def.proofs.Orders.{least_assoc, least_comm}
 use Rattle.oct_def.proofs.Bounds.{least_self}
-use Rattle.oct_def.proofs.Indices.{opposite_twice, opposite_below}
-use Rattle.placed_bounds.specs.Bounded.{Placed, IsPlacedIn, is_hit, bounded_entry, bounded_matrix, all_bounded}
-use Rattle.placed_bounds.proofs.Bounded.{Hits, hits_is, even_matrix-bounded}
+use Rattle.oct_def.proofs.Indices.{opposite_twice}
+use Rattle.placed_bounds.specs.Bounded.{Placed, is_hit, bounded_entry, bounded_matrix, all_bounded}
+use Rattle.placed_bounds.proofs.Bounded.{Hits, hits_is}
 use Rattle.inv_text.specs.declared.bound.InvBound.{InvBound}
-use Rattle.inv_text.specs.CertText.{Place, place_at, columns, places, told}
-use Rattle.inv_text.specs.Listed.{bound_item, half_bounds, placed_at, listed_matrix, IsListing}
-use Rattle.inv_text.specs.Given.{TakesBound, with_bound}
-use Rattle.inv_text.specs.Places.{order_key, is_before, stored_bound, put_in}
-use Rattle.inv_text.proofs.Places.{Each, in_rows, each_rows}
+use Rattle.inv_text.specs.CertText.{Place, place_at, places, told}
+use Rattle.inv_text.specs.Listed.{bound_item, half_bounds, placed_at, listed_matrix}
+use Rattle.inv_text.specs.Places.{is_before, put_in}
+use Rattle.inv_text.proofs.Places.{in_rows}
 use Rattle.inv_text.proofs.Values.{off}
-use Rattle.inv_text.proofs.Putting.{key_at, bound_place, Among, each_among, items, Agree, put_among, rising_places}
+use Rattle.inv_text.proofs.Putting.{Among, each_among, items}
 
 -- ---- bounds in any order
 

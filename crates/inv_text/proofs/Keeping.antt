@@ -1,17 +1,16 @@
 -- A bound put into a matrix that is kept by the list of its finite half entries.
-use Rattle.std.proofs.Common.{◌≡◌, ℕ, zero, suc, ◌+◌, ◌-◌, ◌*◌, ◌/◌, ◌<◌, ◌≤◌, ◌⊎◌, inl, inr, Bool, true, false, ◌&&◌, ◌||◌, cond, eqb, leb, List, [], ◌∷◌, ◌++◌, length, get_or, map, Option, Some, None, refl, sym, ap, subst, ◌∙◌, arith}
-use Rattle.std.specs.Prelude.{ℤ, pos}
+use Rattle.std.proofs.Common.{◌≡◌, ℕ, ◌-◌, ◌*◌, ◌/◌, ◌<◌, ◌≤◌, ◌⊎◌, inl, inr, Bool, true, false, ◌&&◌, ◌||◌, cond, eqb, leb, List, [], ◌∷◌, ◌++◌, length, get_or, Some, None, refl, sym, ap, subst, ◌∙◌, arith}
+use Rattle.std.specs.Prelude.{pos}
 use Rattle.std.specs.List.{insert}
-use Rattle.std.proofs.lemmas.Bool.{false≢true}
-use Rattle.std.proofs.lemmas.Bool.Decides.{Decides-eqb, nat_tests}
+use Rattle.std.proofs.lemmas.Bool.Decides.{nat_tests}
 use Rattle.oct_def.specs.Bound.{Bound, least}
-use Rattle.oct_def.specs.Table.{Matrix, table, at}
+use Rattle.oct_def.specs.Table.{Matrix, at}
 use Rattle.oct_def.specs.Matrix.{opposite, IsMatrix, IsEvenMatrix}
 use Rattle.oct_def.specs.Octagon.{top_entry, top_matrix, top_value}
 use Rattle.oct_def.proofs.Tables.{length-table, at-table, table-same}
 use Rattle.oct_def.proofs.Indices.{opposite_twice, opposite_same}
 use Rattle.oct_def.proofs.Lattice.{octagon-top}
-use Rattle.placed_bounds.specs.Bounded.{Placed, IsPlacedIn, is_hit, bounded_entry, bounded_matrix}
+use Rattle.placed_bounds.specs.Bounded.{IsPlacedIn, is_hit, bounded_entry, bounded_matrix}
 use Rattle.placed_bounds.proofs.Bounded.{Hits, hits_is, even_matrix-bounded}
 use Rattle.inv_text.specs.declared.bound.InvBound.{InvBound}
 use Rattle.inv_text.specs.CertText.{Place, place_at, columns, places, told}
@@ -20,7 +19,7 @@ use Rattle.inv_text.specs.Given.{TakesBound, with_bound}
 use Rattle.inv_text.specs.Places.{order_key, is_before, stored_bound, put_in}
 use Rattle.inv_text.proofs.Places.{Each, in_rows, each_rows}
 use Rattle.inv_text.proofs.Values.{off}
-use Rattle.inv_text.proofs.Putting.{key_at, bound_place, Among, each_among, items, Agree, put_among, rising_places, InOrder, in_order-items, inserted}
+use Rattle.inv_text.proofs.Putting.{key_at, Among, each_among, items, Agree, put_among, rising_places, InOrder, in_order-items, inserted}
 use Rattle.inv_text.proofs.Halves.{length-bounded, at-bounded, listed-put_in}
 
 -- ---- no bounds

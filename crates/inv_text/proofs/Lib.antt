@@ -1,4 +1,5 @@
 pub mod Words
+pub mod WordEnds
 pub mod Places
 pub mod Values
 pub mod Texts
@@ -6,3 +7,6 @@ pub mod Putting
 pub mod Halves
 pub mod Keeping
 pub mod Listing
+pub mod Next
+pub mod Left
+pub mod Lines

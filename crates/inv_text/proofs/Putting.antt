@@ -1,10 +1,10 @@
 -- A bound put among others in order of their places.
-use Rattle.std.proofs.Common.{◌≡◌, ℕ, zero, suc, ◌+◌, ◌-◌, ◌*◌, ◌<◌, ◌≤◌, ◌⊎◌, inl, inr, Bool, true, false, cond, ltb, List, [], ◌∷◌, ◌++◌, length, get_or, map, take, drop, Some, None, refl, sym, ap, subst, ◌∙◌, arith}
-use Rattle.std.specs.List.{flat_map, range_with_len, insert}
+use Rattle.std.proofs.Common.{◌≡◌, ℕ, zero, suc, ◌+◌, ◌-◌, ◌*◌, ◌<◌, ◌≤◌, ◌⊎◌, inl, inr, Bool, true, false, cond, List, [], ◌∷◌, ◌++◌, length, get_or, Some, None, refl, sym, ap, subst, ◌∙◌, arith}
+use Rattle.std.specs.List.{flat_map, insert}
 use Rattle.std.proofs.lemmas.Bool.Decides.{nat_tests}
 use Rattle.oct_def.specs.Bound.{Bound}
 use Rattle.inv_text.specs.declared.bound.InvBound.{InvBound}
-use Rattle.inv_text.specs.CertText.{Place, place_at, columns, row_places, places}
+use Rattle.inv_text.specs.CertText.{Place, place_at, columns, places}
 use Rattle.inv_text.specs.Listed.{bound_item}
 use Rattle.inv_text.specs.Places.{order_key, is_before, put_in}
 use Rattle.inv_text.proofs.Places.{row_from, rows_from, Each}

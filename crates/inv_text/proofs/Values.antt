@@ -11,7 +11,8 @@ use Rattle.oct_def.specs.Matrix.{opposite, IsMatrix}
 use Rattle.oct_def.specs.Octagon.{IsValueOver}
 use Rattle.oct_def.proofs.Tables.{same-matrices}
 use Rattle.inv_text.specs.CertText.{Place, place_at, columns, places, told, bound_text, value_text}
-use Rattle.inv_text.proofs.Words.{Stops, IsShort, number_split, integer_split, decimal_first}
+use Rattle.inv_text.specs.Words.{Stops, IsShort}
+use Rattle.inv_text.proofs.Words.{number_split, integer_split, decimal_first}
 use Rattle.inv_text.proofs.Places.{Apart, Distinct, distinct_rows, Each, in_rows, each_rows}
 
 -- a place of small numbers, and a bound of 63 bits
@@ -90,13 +91,13 @@ bounds_same f g (p ∷ ps) r s er es sf sg d e = by (f p) (g p) refl refl sf.0.1
     by (Some v) None x y h k e more = absurd (absent g ps s p v (bounds_text f ps ++ r) es (stops_bounds f ps r er) sg.1 sf.0.0 h d.0 (sym e ∙ piece_is p v (bounds_text f ps) r))
     by (Some v) (Some w) x y h k e more =
         let t = piece_split p p v w (bounds_text f ps ++ r) (bounds_text g ps ++ s) sf.0.0 sf.0.0 h k (stops_bounds f ps r er) (stops_bounds g ps s es)
-            (sym (piece_is p v (bounds_text f ps) r) ∙ (e ∙ piece_is p w (bounds_text g ps) s)) in
+        (sym (piece_is p v (bounds_text f ps) r) ∙ (e ∙ piece_is p w (bounds_text g ps) s)) in
         let m = more t.3 in
         ((x ∙ (ap (λ (z : ℤ). Some z) t.2 ∙ sym y), m.0), m.1)
 
 -- ---- matrices
 
-short_bound : (b : Bound) → InRange b → IsShortBound b
+pub short_bound : (b : Bound) → InRange b → IsShortBound b
 short_bound None h = tt
 short_bound (Some (pos n)) h = let a = h.1 in omega (arith, ints, a)
 short_bound (Some (negsuc n)) h = let a = h.0 in omega (arith, ints, a)
@@ -175,6 +176,6 @@ value_same n (Some a) None r s l iv iw er es e =
     absurd (no_word (told a) (places (length a)) s r er (subst (λ (k : ℕ). Small (told a) (places k)) (sym iv.matrix.rows) (small_told n a l iv.matrix)) (sym e))
 value_same n (Some a) (Some b) r s l iv iw er es e =
     let texts : bounds_text (told a) (places (2 * n)) ++ r ≡ bounds_text (told b) (places (2 * n)) ++ s =
-        ap (λ (k : ℕ). bounds_text (told a) (places k) ++ r) (sym iv.matrix.rows) ∙ (e ∙ ap (λ (k : ℕ). bounds_text (told b) (places k) ++ s) iw.matrix.rows) in
+    ap (λ (k : ℕ). bounds_text (told a) (places k) ++ r) (sym iv.matrix.rows) ∙ (e ∙ ap (λ (k : ℕ). bounds_text (told b) (places k) ++ s) iw.matrix.rows) in
     let both = bounds_same (told a) (told b) (places (2 * n)) r s er es (small_told n a l iv.matrix) (small_told n b l iw.matrix) (distinct n) texts in
     (ap (λ (m : Matrix). Some m) (told_same n a b iv.matrix iw.matrix both.0), both.1)

@@ -1,5 +1,5 @@
 -- What a bound that is given for a point asks of it, and what it leaves.
-use Rattle.std.specs.Prelude.{◌≡◌, ◌≢◌, ℕ, ◌-◌, ◌<◌, Option, Some, None, List, length, slice_index_or, slice_set}
+use Rattle.std.specs.Prelude.{◌≡◌, ◌≢◌, ◌-◌, ◌<◌, Option, Some, None, List, length, slice_set}
 use Rattle.std.specs.Option.{option_map}
 use Rattle.oct_def.specs.Bound.{InRange, IsEven}
 use Rattle.oct_def.specs.Table.{Matrix, at}

@@ -5,3 +5,5 @@ pub mod Example
 pub mod Listed
 pub mod Places
 pub mod Given
+pub mod Words
+pub mod Reading

@@ -42,6 +42,15 @@ impl HalfBounds {
         }
     }
 
+    /// The number of variables.
+    pub fn dims(&self) -> u32
+        ensures rows { length self.now ≡ 2 * result }
+        ensures small { result ≤ 256 }
+        ensures value { IsEvenMatrix result self.now }
+    {
+        self.dims
+    }
+
     /// Law: a matrix with so many rows is one over half as many variables.
     pub fn known(&self, dims: u32)
         requires rows { length self.now ≡ 2 * dims }
