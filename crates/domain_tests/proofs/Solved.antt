@@ -6,7 +6,7 @@ use Rattle.spl_core.specs.Parts.{Parts, proc_at, owner_of}
 use Rattle.spl_core.specs.Graph.{graph_of}
 use Rattle.iteration.specs.Ends.{SolutionsAreSized}
 use Rattle.iteration.specs.Solution.{Solution, IsSolution, stored_in, read_in}
-use Rattle.iteration.proofs.Sized.{points}
+use Rattle.iteration.proofs.Planned.{points}
 
 pub points-in : (c : Parts) (delay descend point : ℕ) (s : Solution) → IsSolution (graph_of c) delay descend s → point < length c.owners
     → point < length s.values

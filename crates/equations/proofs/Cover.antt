@@ -94,7 +94,7 @@ meets-equation : (g : Graph) (r : ℕ → Octagon) (x : ℕ) (s : State) (o : So
 unfolding equation
 meets-equation g r x s o i h = meets-one g r x s (sources g x) (bottom_value (dims_at g x)) o i h
 
-dims-fold : (g : Graph) (r : ℕ → Octagon) (x : ℕ) (os : List Source) (v : Octagon) → (fold (with_source g r x) v os).dims ≡ v.dims
+pub dims-fold : (g : Graph) (r : ℕ → Octagon) (x : ℕ) (os : List Source) (v : Octagon) → (fold (with_source g r x) v os).dims ≡ v.dims
 unfolding join_value
 dims-fold g r x [] v = refl
 dims-fold g r x (o ∷ os) v = dims-fold g r x os (with_source g r x v o)

@@ -3,3 +3,8 @@ pub mod Cover
 pub mod Gathering
 pub mod Fitting
 pub mod Readers
+pub mod Bringing
+pub mod Copies
+pub mod Calling
+pub mod Sourced
+pub mod Inductions

@@ -1,5 +1,5 @@
 -- The equations of the analysis: X gives each point a value, and F the value that a point has by what it is computed from.
-use Rattle.std.specs.Prelude.{◌≡◌, ℕ, ◌<◌, Bool, nat_eq, length, if◌then◌else◌}
+use Rattle.std.specs.Prelude.{◌≡◌, ℕ, ◌<◌, Bool, nat_eq, List, length, slice_index_or, if◌then◌else◌}
 use Rattle.std.specs.List.{fold}
 use Rattle.oct_def.specs.Octagon.{Octagon, MeetsOctagon, bottom_value, top_value, tight_value, join_value, narrow_value}
 use Rattle.spl_core.specs.Expression.{State}
@@ -48,6 +48,10 @@ equation g r x = fold (with_source g r x) (bottom_value (dims_at g x)) (sources 
 -- a cut point is read through its tight closure
 abbrev pub read : (ℕ → Bool) → (ℕ → Octagon) → ℕ → Octagon
 read cut x p = if cut p then tight_value (x p) else x p
+
+-- the value of a point, where the values of the points stand in a list
+abbrev pub value_in : List Octagon → ℕ → Octagon
+value_in values p = slice_index_or values p (bottom_value 0)
 
 -- ---- coverage
 

@@ -1,3 +1,4 @@
 pub mod Sources
 pub mod Table
 pub mod Equations
+pub mod Inductive

@@ -16,8 +16,8 @@ use Rattle.call_graph.proofs.Sorting.{is_order, before_asym}
 use Rattle.equations.specs.Sources.{source_by, source_at_start, source_into_entry, source_into_point, sources, exit_of, reads_of, reads_at}
 use Rattle.equations.proofs.Facts.{Known}
 use Rattle.iteration.specs.Solved.{system_of}
-use Rattle.iteration.specs.Ends.{IsOrdered}
-use Rattle.iteration.proofs.Layers.{layered-by, distinct-by}
+use Rattle.rounds.specs.System.{IsOrdered}
+use Rattle.rounds.proofs.Layers.{layered-by, distinct-by}
 
 leb_from : (a b : ℕ) → a ≤ b → leb a b ≡ true
 leb_from a b h = elim (leb_tells a b) [ inl t ↦ t.0 | inr t ↦ absurd (omega (arith, t.1)) ]

@@ -1,10 +1,5 @@
-pub mod Rounds
 pub mod Solved
-pub mod Height
 pub mod Ends
 pub mod Sound
-pub mod Laws
-pub mod Slots
 pub mod Plan
-pub mod Marks
 pub mod Solution

@@ -2,7 +2,6 @@
 use Rattle.std.specs.Prelude.{◌≡◌, ℕ, ◌<◌, Bool, false, List, length, slice_index_or, if◌then◌else◌}
 use Rattle.oct_def.specs.Octagon.{Octagon, bottom_value, tight_value}
 use Rattle.spl_core.specs.Graph.{Graph}
-use Rattle.iteration.specs.Rounds.{Cell}
 use Rattle.iteration.specs.Solved.{stored_of, read_of, rounds_of}
 
 -- the stored value of each point, which points are cut points, and the number of ascending rounds
@@ -10,10 +9,6 @@ pub record Solution : Type 0 where
   pub values : List Octagon
   pub cuts : List Bool
   pub rounds : ℕ
-
--- the values of cells
-abbrev pub value_of : Cell → Octagon
-value_of d = d.value
 
 abbrev pub stored_in : Solution → ℕ → Octagon
 stored_in s p = slice_index_or s.values p (bottom_value 0)

@@ -1,24 +1,12 @@
-//! The analysis of a core: rounds over its points until nothing changes, then rounds that narrow. A round passes over the
-//! points that read nothing that changed.
+//! The analysis of a core: its forward equations solved by rounds over its points, until nothing changes and then with
+//! narrowing; and that what is found holds of every run.
 #![tactic(auto)]
 
 mod analysis;
-mod calls;
-mod equation;
 mod laws;
-mod marking;
-mod moves;
-mod reading;
-mod rounds;
-mod slot;
 mod solution;
-mod storing;
 mod system;
-mod visiting;
 
 pub use analysis::analyse;
-pub use laws::{
-    law_ascent, law_join_again, law_narrow_again, law_sizes, law_sound, law_widen_again,
-    law_widen_joined,
-};
+pub use laws::{law_ascent, law_sizes, law_sound};
 pub use solution::Solution;

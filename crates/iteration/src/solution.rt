@@ -2,16 +2,17 @@
 ghost use Rattle.std.specs.Prelude.{◌≡◌, ◌<◌, ◌≤◌, length, IfOk};
 ghost use Rattle.iteration.specs.Solution.{stored_in, read_in};
 
+use call_graph::Graph;
 use domain::Domain;
 use memory::NoMemory;
 use std::alloc::Global;
 use std::marker::Model;
 
-/// A stored value for each point, and the number of ascending rounds.
+/// A stored value for each point, with the cut points, and the number of ascending rounds.
 #[derive(Drop)]
 pub struct Solution<D: Domain> {
     pub(crate) values: Vec<D::V>,
-    pub(crate) cuts: Vec<bool>,
+    pub(crate) graph: Graph,
     pub(crate) rounds: u64,
 }
 
@@ -21,9 +22,9 @@ impl<D: Domain> Model for Solution<D> {
 
     ghost Value = { Solution };
 
-    ghost view = { λ s. record { values = map D.meaning s.values.items; cuts = s.cuts.items; rounds = s.rounds } };
+    ghost view = { λ s. record { values = map D.meaning s.values.items; cuts = s.graph.cuts; rounds = s.rounds } };
 
-    ghost invariant = { λ s. length s.cuts.items ≡ length s.values.items };
+    ghost invariant = { λ s. length s.graph.cuts ≡ length s.values.items };
 }
 
 impl<D: Domain> Solution<D> {
@@ -42,7 +43,7 @@ impl<D: Domain> Solution<D> {
         ensures work { D.work dom.old ≤ D.work dom.new }
     {
         let value = &self.values[point as usize];
-        if self.cuts[point as usize] {
+        if self.graph.is_cut(point) {
             let v = dom.close(alloc, value)?;
             Ok(v)
         } else {

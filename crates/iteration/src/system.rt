@@ -1,25 +1,23 @@
-//! A core with what the rounds read of it: the order of its points, its cut points, and the sources and readers of each point.
-ghost use Rattle.std.specs.Prelude.{◌≡◌, ◌<◌, ◌≤◌, length};
-ghost use Rattle.spl_core.specs.Parts.{proc_at, owner_of};
-ghost use Rattle.spl_core.specs.Facts.{IsCore};
-ghost use Rattle.spl_core.specs.Graph.{graph_of};
-ghost use Rattle.call_graph.specs.Order.{order, is_cut};
-ghost use Rattle.equations.specs.Sources.{sources, readers};
+//! A core with what the rounds ask of it: the order of its points, its cut points, and the sources and readers of each point.
 
 use call_graph::Graph;
-use equations::{Source, Sources};
-use spl_core::{Core, Proc};
+use domain::Domain;
+use equations::{Sources, equation};
+use memory::NoMemory;
+use rounds::Equations;
+use spl_core::Core;
+use std::alloc::Global;
 use std::marker::Model;
 
-/// A core, its call graph, its sources and its readers.
+/// A core, its call graph, and its sources and readers: its forward equations.
 #[derive(Drop)]
-pub(crate) struct System<'c> {
+pub(crate) struct CoreSystem<'c> {
     pub(crate) core: &'c Core,
-    pub(crate) graph: Graph,
-    pub(crate) table: Sources,
+    pub(crate) graph: &'c Graph,
+    pub(crate) table: &'c Sources,
 }
 
-impl<'c> Model for System<'c> {
+impl<'c> Model for CoreSystem<'c> {
     ghost use Rattle.spl_core.specs.Parts.{Parts};
     ghost use Rattle.iteration.specs.Plan.{IsPlan};
 
@@ -27,58 +25,53 @@ impl<'c> Model for System<'c> {
 
     ghost view = { λ s. s.core.now };
 
-    ghost invariant = { λ s. IsPlan s.core.now s.graph s.table };
+    ghost invariant = { λ s. IsPlan s.core.now s.graph.now s.table.now };
 }
 
-impl<'c> System<'c> {
-    /// The core.
-    pub(crate) fn core(&self) -> &Core
-        ensures value { result.now ≡ self.now }
-        ensures known { IsCore self.now }
-    {
-        self.core
+impl<'c, D: Domain> Equations<D> for CoreSystem<'c> {
+    ghost use Rattle.spl_core.specs.Graph.{graph_of};
+    ghost use Rattle.iteration.specs.Solved.{system_of};
+
+    ghost system = { λ c. system_of (graph_of c) };
+
+    fn points(&self) -> u32 {
+        self.core.points()
     }
 
-    /// The procedure of a point.
-    pub(crate) fn proc_owning(&self, p: u32) -> Proc
-        requires { p < length self.now.owners }
-        ensures found { result ≡ proc_at self.now (owner_of self.now p) }
-        ensures known { IsCore self.now }
-    {
-        self.core.proc_at(self.core.owner(p))
+    fn dims(&self, p: u32) -> u32 {
+        self.core.proc_at(self.core.owner(p)).dims
     }
 
-    /// Whether a point is a cut point.
-    pub(crate) fn is_cut(&self, p: u32) -> bool
-        requires { p < length self.now.owners }
-        ensures found { result ≡ is_cut (graph_of self.now) p }
-    {
+    fn is_cut(&self, p: u32) -> bool {
         self.graph.is_cut(p)
     }
 
-    /// The points in the order of a round.
-    pub(crate) fn order(&self) -> &[u32]
-        ensures found { result.now ≡ order (graph_of self.now) }
-        ensures known { IsCore self.now }
-    {
+    fn order(&self) -> &[u32] {
         self.graph.order()
     }
 
-    /// The points that read a point.
-    pub(crate) fn readers(&self, p: u32) -> &[u32]
-        requires { p < length self.now.owners }
-        ensures found { result.now ≡ readers (graph_of self.now) p }
-        ensures known { IsCore self.now }
-    {
+    fn readers(&self, p: u32) -> &[u32] {
         self.table.readers(p)
     }
 
-    /// The sources of a point.
-    pub(crate) fn sources(&self, p: u32) -> &[Source]
-        requires { p < length self.now.owners }
-        ensures found { result.now ≡ sources (graph_of self.now) p }
-        ensures known { IsCore self.now }
-    {
-        self.table.of(p)
+    // Main's entry reads nothing, and states come from nowhere else.
+    fn begins(&self, p: u32) -> bool {
+        p == self.core.proc_at(self.core.procs() - 1).entry
+    }
+
+    fn equation(
+        &self,
+        alloc: Global,
+        dom: &mut D,
+        values: &[D::V],
+        p: u32,
+    ) -> Result<D::V, NoMemory> {
+        let v = equation(alloc, dom, self.core, self.table, values, p)?;
+        Ok(v)
+    }
+
+    fn widen(&self, alloc: Global, dom: &mut D, a: &D::V, b: &D::V) -> Result<D::V, NoMemory> {
+        let v = dom.widen(alloc, a, b)?;
+        Ok(v)
     }
 }

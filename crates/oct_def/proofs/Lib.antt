@@ -8,5 +8,6 @@ pub mod Coherent
 pub mod Values
 pub mod Closings
 pub mod Lattice
+pub mod Below
 pub mod Examples
 pub mod WordBounds

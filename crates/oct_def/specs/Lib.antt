@@ -4,5 +4,6 @@ pub mod Table
 pub mod Matrix
 pub mod Tight
 pub mod Octagon
+pub mod Below
 pub mod Laws
 pub mod Examples

@@ -1,10 +1,15 @@
 use Rattle.equations.proofs.Facts.{known}
-use Rattle.iteration.proofs.Ordered.{is_ordered}
-use Rattle.iteration.proofs.Headline.{ascent_ends}
+use Rattle.rounds.proofs.Solved.{ascent_ends}
+use Rattle.iteration.specs.Solved.{system_of}
+use Rattle.iteration.proofs.Forward.{is_system}
+use Rattle.iteration.proofs.Headline.{ascent_inductive}
 use Rattle.iteration.proofs.laws.law_ascent.Goals as goal
 
-pub returns-clause-ordered : goal.returns-clause-ordered
-returns-clause-ordered c g is = is_ordered g (known g is)
+pub returns-clause-system : goal.returns-clause-system
+returns-clause-system c g is = is_system g (known g is)
 
 pub returns-clause-ends : goal.returns-clause-ends
-returns-clause-ends c g delay is = ascent_ends g delay (known g is)
+returns-clause-ends c g delay is = ascent_ends (system_of g) delay (is_system g (known g is))
+
+pub returns-clause-inductive : goal.returns-clause-inductive
+returns-clause-inductive c g delay is = ascent_inductive g delay (known g is)

@@ -1,0 +1,9 @@
+pub mod Widening
+pub mod System
+pub mod Rounds
+pub mod Solved
+pub mod Ends
+pub mod Laws
+pub mod Slots
+pub mod Marks
+pub mod Outcome
