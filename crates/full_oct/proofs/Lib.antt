@@ -8,3 +8,4 @@ pub mod Values
 pub mod Taking
 pub mod Forming
 pub mod Testing
+mod Coherently

@@ -3,3 +3,4 @@ pub mod Value
 pub mod Places
 pub mod Taken
 pub mod Formed
+pub mod Placing

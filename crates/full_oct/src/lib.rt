@@ -8,6 +8,7 @@ mod closing;
 mod dimensions;
 mod lattice;
 mod matrix;
+mod placing;
 mod plain;
 mod ranges;
 mod test;

@@ -36,12 +36,19 @@ abbrev pub EndsWith : Told → List ℕ → List ℕ → Type 0
 EndsWith None name left = Unit {0}
 EndsWith (Some files) name left = (came : List ℕ) × (map.get files name ≡ Some (came ++ left))
 
--- where the files are told, one byte more came of the one of this name than a whole file may have, and these are left after them
-abbrev pub IsLong : Told → List ℕ → List ℕ → Type 0
-IsLong None name left = Unit {0}
-IsLong (Some files) name left = (came : List ℕ) × (map.get files name ≡ Some (came ++ left)) × (length came ≡ most_bytes + 1)
+-- where the files are told, one byte more than so many came of the one of this name, and these are left after them
+abbrev pub IsLongOver : ℕ → Told → List ℕ → List ℕ → Type 0
+IsLongOver most None name left = Unit {0}
+IsLongOver most (Some files) name left = (came : List ℕ) × (map.get files name ≡ Some (came ++ left)) × (length came ≡ most + 1)
 
--- the files are told, and the one of this name has more bytes than a whole file may have
+-- the files are told, and the one of this name has more bytes than so many
+abbrev pub HasOver : ℕ → Told → List ℕ → Type 0
+HasOver most None name = ⊥
+HasOver most (Some files) name = (bytes : List ℕ) × (map.get files name ≡ Some bytes) × (most + 1 ≤ length bytes)
+
+-- the same of the most that a whole file may have
+abbrev pub IsLong : Told → List ℕ → List ℕ → Type 0
+IsLong told name left = IsLongOver most_bytes told name left
+
 abbrev pub IsTooLong : Told → List ℕ → Type 0
-IsTooLong None name = ⊥
-IsTooLong (Some files) name = (bytes : List ℕ) × (map.get files name ≡ Some bytes) × (most_bytes + 1 ≤ length bytes)
+IsTooLong told name = HasOver most_bytes told name

@@ -2,7 +2,7 @@
 ghost use Rattle.std.specs.Prelude.{◌≡◌, ◌≢◌, ◌<◌, ◌≤◌, ◌+◌, ◌^◌, ◌⊎◌, ◌↔◌, ◌++◌, [], List, ℕ, Bool, true, false, length, take, is_ok, IfOk, IfErr, OnOk, OnErr, IsErrOf};
 ghost use Rattle.std.specs.Io.{ReadsAtMost};
 ghost use Rattle.spl_io.specs.Counts.{Rose};
-ghost use Rattle.spl_io.specs.Store.{Told, Lacks, Has, WhereTold, EndsWith, IsLong, IsTooLong, most_bytes};
+ghost use Rattle.spl_io.specs.Store.{Told, Lacks, Has, WhereTold, EndsWith, IsLong, IsTooLong, IsLongOver, HasOver, most_bytes};
 ghost use Rattle.spl_io.specs.Words.{name_at};
 
 use crate::Words;
@@ -87,7 +87,7 @@ pub enum ReadAllError {
     /// A read failed.
     #[error("reading the file failed")]
     ReadFault,
-    /// The file has more than 2^20 bytes.
+    /// The file has more bytes than asked for: in `read_all` more than 2^20.
     #[error("the file is too long")]
     TooLong,
     /// Memory was wanting.
@@ -96,12 +96,61 @@ pub enum ReadAllError {
 }
 
 /// The most bytes of a whole file: 1 MiB.
-const MOST: usize = 1 << 20;
+const MOST: u32 = 1 << 20;
 
 /// The most bytes of one read.
 const PIECE: usize = 4096;
 
-/// Reads the whole file named by the word at a place. It opens the file once; each read but the last takes at least one byte.
+/// Reads the whole file named by the word at a place, which has at most so many bytes. It opens the file once; each read but the last takes at least one byte.
+///
+/// Takes memory in the file's length, and 4096 bytes of stack.
+pub fn read_up_to<F: Files>(
+    alloc: Global,
+    files: &mut F,
+    words: &Words,
+    place: usize,
+    most: u32,
+) -> Result<Vec<u8>, ReadAllError>
+    requires { place < length words.now }
+    ensures whole { IfOk result (λ all. Has (F.files files.old) (name_at words.now place) all.items) }
+    ensures not_long { IfOk result (λ all. length all.items ≤ most) }
+    ensures nothing_left { OnOk result (WhereTold (F.files files.old) (F.left files.new ≡ [])) }
+    ensures cannot_open { IsErrOf result ReadAllError.CannotOpen → Rose (F.open_faults files.old) (F.open_faults files.new) ⊎ Lacks (F.files files.old) (name_at words.now place) }
+    ensures cannot_open_reads_nothing { IsErrOf result ReadAllError.CannotOpen → F.read_faults files.new ≡ F.read_faults files.old }
+    ensures cannot_open_left { IsErrOf result ReadAllError.CannotOpen → WhereTold (F.files files.old) (F.left files.new ≡ []) }
+    ensures read_fault { IsErrOf result ReadAllError.ReadFault → Rose (F.read_faults files.old) (F.read_faults files.new) }
+    ensures read_fault_left { IsErrOf result ReadAllError.ReadFault → EndsWith (F.files files.old) (name_at words.now place) (F.left files.new) }
+    ensures no_memory_left { IsErrOf result ReadAllError.NoMemory → EndsWith (F.files files.old) (name_at words.now place) (F.left files.new) }
+    ensures too_long { IsErrOf result ReadAllError.TooLong → IsLongOver most (F.files files.old) (name_at words.now place) (F.left files.new) }
+    ensures long_is_told { HasOver most (F.files files.old) (name_at words.now place) → IsErrOf result ReadAllError.TooLong ⊎ IsErrOf result ReadAllError.NoMemory ⊎ Rose (F.open_faults files.old) (F.open_faults files.new) ⊎ Rose (F.read_faults files.old) (F.read_faults files.new) }
+    ensures same_files { F.files files.new ≡ F.files files.old }
+    ensures open_faults_never_fall { F.open_faults files.old ≤ F.open_faults files.new }
+    ensures read_faults_never_fall { F.read_faults files.old ≤ F.read_faults files.new }
+    ensures calls_never_fall { F.calls files.old ≤ F.calls files.new }
+    ensures few_calls { F.calls files.new ≤ F.calls files.old + (most + 3) }
+{
+    if files.open_word(words, place).is_err() {
+        return Err(ReadAllError::CannotOpen);
+    }
+    let most = most as usize;
+    let mut all = Vec::new(alloc);
+    let mut buf = [0u8; PIECE];
+    while all.len() <= most {
+        let room = (most + 1 - all.len()).min(PIECE);
+        let part = &mut buf[..room];
+        let count = match files.read(part) {
+            Ok(0) => return Ok(all),
+            Ok(count) => count,
+            Err(Failed) => return Err(ReadAllError::ReadFault),
+        };
+        if all.extend_from_slice(&buf[..count]).is_err() {
+            return Err(ReadAllError::NoMemory);
+        }
+    }
+    Err(ReadAllError::TooLong)
+}
+
+/// Reads the whole file named by the word at a place, which has at most 2^20 bytes. It opens the file once; each read but the last takes at least one byte.
 ///
 /// Takes memory in the file's length, and 4096 bytes of stack.
 pub fn read_all<F: Files>(
@@ -128,22 +177,5 @@ pub fn read_all<F: Files>(
     ensures calls_never_fall { F.calls files.old ≤ F.calls files.new }
     ensures few_calls { F.calls files.new ≤ F.calls files.old + (2 ^ 20 + 3) }
 {
-    if files.open_word(words, place).is_err() {
-        return Err(ReadAllError::CannotOpen);
-    }
-    let mut all = Vec::new(alloc);
-    let mut buf = [0u8; PIECE];
-    while all.len() <= MOST {
-        let room = (MOST + 1 - all.len()).min(PIECE);
-        let part = &mut buf[..room];
-        let count = match files.read(part) {
-            Ok(0) => return Ok(all),
-            Ok(count) => count,
-            Err(Failed) => return Err(ReadAllError::ReadFault),
-        };
-        if all.extend_from_slice(&buf[..count]).is_err() {
-            return Err(ReadAllError::NoMemory);
-        }
-    }
-    Err(ReadAllError::TooLong)
+    read_up_to(alloc, files, words, place, MOST)
 }

@@ -12,7 +12,7 @@ mod mem_sink;
 mod sink;
 mod words;
 
-pub use files::{Failed, Files, OpenFault, ReadAllError, read_all};
+pub use files::{Failed, Files, OpenFault, ReadAllError, read_all, read_up_to};
 pub use host::{HostFiles, HostSink};
 pub use mem_files::MemFiles;
 pub use mem_sink::MemSink;

@@ -1,5 +1,5 @@
 use Rattle.spl_io.proofs.Pieces.{ends-read}
-use Rattle.spl_io.proofs.files.read_all.Goals as goal
+use Rattle.spl_io.proofs.files.read_up_to.Goals as goal
 
 pub returns-then-is_err-2-clause-no_memory_left : goal.returns-then-is_err-2-clause-no_memory_left
 returns-then-is_err-2-clause-no_memory_left g c =

@@ -1,0 +1,6 @@
+pub mod Given
+pub mod Bounds
+pub mod Verdict
+pub mod Entry
+pub mod Sound
+pub mod Examples

@@ -1,0 +1,12 @@
+pub mod Words
+pub mod WordEnds
+pub mod Places
+pub mod Values
+pub mod Texts
+pub mod Putting
+pub mod Halves
+pub mod Keeping
+pub mod Listing
+pub mod Next
+pub mod Left
+pub mod Lines

@@ -1,0 +1,9 @@
+pub mod Invariants
+pub mod CertText
+pub mod Laws
+pub mod Example
+pub mod Listed
+pub mod Places
+pub mod Given
+pub mod Words
+pub mod Reading
