@@ -15,7 +15,6 @@ use Rattle.std.proofs.lemmas.List.Sorted.{searched}
 use Rattle.block_partition.proofs.Places.{home_in, few_blocks, place-member, place-none}
 use Rattle.block_partition.proofs.Labels.{none_some}
 use Rattle.block_partition.proofs.Groups.{same_block-grouped, partition-grouped, ordered-grouped, grouped-none}
-use Rattle.block_partition.proofs.Unique.{partition-unique}
 
 -- ---- numbers of blocks
 
@@ -93,23 +92,6 @@ plain-same : (bs : List (List ℕ)) (u w : ℕ) (a b : Option Label) → Plain b
 plain-same bs u w a b (placed p e) (placed r f) t d = (let g : home bs u ≡ home bs w = cc in g, p)
 plain-same bs u w a b (placed p e) (free r f) t d = absurd (d (t ∙ f))
 plain-same bs u w a b (free r f) _ t d = absurd (d f)
-
--- ---- a copy
-
-pub copy-labels : (bs ds : List (List ℕ)) (labels : List (Option Label)) → IsPartition 512 bs → IsOrdered bs → IsPartition 512 ds → IsOrdered ds → IsLabelled (plain_label bs) labels → ds ≡ grouped labels → ds ≡ bs
-copy-labels bs ds labels pb ob pd od h e = partition-unique 512 ds bs pd pb od ob (λ u w p q. (there u w, back u w))
-  where
-    there : (u w : ℕ) → SameBlock ds u w → SameBlock bs u w
-    there u w s =
-        let r = (same-labelled _ labels h u w).0 (subst (λ t. SameBlock t u w) e s) in
-        plain-same bs u w _ _ (plain bs u) (plain bs w) r.0 r.1
-
-    back : (u w : ℕ) → SameBlock bs u w → SameBlock ds u w
-    back u w s =
-        let q : home bs w < length bs = omega (arith, s.0, s.1) in
-        let eu = plain-some bs u _ (refl, s.1) in
-        subst (λ t. SameBlock t u w) (sym e) ((same-labelled _ labels h u w).1
-        (sym eu ∙ ap (λ t. Some (Whole t)) s.0 ∙ plain-some bs w _ (refl, q), λ t. none_some (Whole (home bs u)) (sym t ∙ sym eu)))
 
 -- ---- the meet
 

@@ -1,8 +1,8 @@
 // Partitions: blocks in order, and for each variable the number of its block.
-ghost use Rattle.std.specs.Prelude.{◌≡◌, ◌<◌, ◌≤◌, [], IfOk, OnOk, OnErr, MatchOption, length};
-ghost use Rattle.block_partition.specs.Partition.{home, block as block_at, place, IsBlock, IsPartition, IsOrdered};
+ghost use Rattle.std.specs.Prelude.{◌≡◌, ℕ, ◌<◌, ◌≤◌, [], IfOk, OnOk, OnErr, MatchOption, length, map, true};
+ghost use Rattle.block_partition.specs.Partition.{member, home, block as block_at, place, IsBlock, IsPartition, IsOrdered};
 ghost use Rattle.block_partition.specs.Changes.{AreVariables, IsMergedBy, IsSplitBy, IsMeetOf, IsGroupedBy};
-ghost use Rattle.block_partition.specs.Grouping.{grouped};
+ghost use Rattle.block_partition.specs.Grouping.{grouped, IsHomes};
 ghost use Rattle.block_partition.specs.Relabelling.{key as key_of, plain_label as plain_label_of, merged_label as merged_label_of, split_label as split_label_of, meet_label as meet_label_of, IsMarked, IsSpan, IsLabelled};
 
 use crate::grouping::{Grouped, group_by};
@@ -10,25 +10,27 @@ use crate::relabelling::{Label, own_label, part_label};
 use memory::NoMemory;
 use std::alloc::Global;
 use std::marker::Model;
+use std::rc::Rc;
 
-/// Rising lists of variables below 512 that share none, in the order of their least members.
+/// Rising lists of variables below 512 that share none, in the order of their least members. Copies share the lists; without
+/// blocks there are none.
 #[derive(Drop)]
 pub struct Partition {
     alloc: Global,
-    blocks: Vec<Vec<u32>>,
-    homes: Vec<Option<u32>>,
+    held: Option<Rc<Grouped>>,
 }
 
 impl Model for Partition {
-    ghost use Rattle.std.specs.Prelude.{ℕ, List, map};
+    ghost use Rattle.std.specs.Prelude.{ℕ, List, [], map};
+    ghost use Rattle.std.specs.Option.{option_map_or};
     ghost use Rattle.block_partition.specs.Partition.{IsPartition, IsOrdered};
     ghost use Rattle.block_partition.specs.Grouping.{IsHomes};
 
     ghost Value = { List (List ℕ) };
 
-    ghost view = { λ p. map (λ vs. vs.items) p.blocks.items };
+    ghost view = { λ p. option_map_or (λ r. map (λ vs. vs.items) r.value.blocks.items) p.held [] };
 
-    ghost invariant = { λ p. IsPartition 512 (map (λ vs. vs.items) p.blocks.items) × IsOrdered (map (λ vs. vs.items) p.blocks.items) × IsHomes (map (λ vs. vs.items) p.blocks.items) p.homes.items };
+    ghost invariant = { λ p. IsPartition 512 (option_map_or (λ r. map (λ vs. vs.items) r.value.blocks.items) p.held []) × IsOrdered (option_map_or (λ r. map (λ vs. vs.items) r.value.blocks.items) p.held []) × IsHomes (option_map_or (λ r. map (λ vs. vs.items) r.value.blocks.items) p.held []) (option_map_or (λ r. r.value.homes.items) p.held []) };
 }
 
 /// The place of a variable among the members of a block; their number where it isn't one. It takes time in proportion to
@@ -48,11 +50,7 @@ impl Partition {
     pub fn new(alloc: Global) -> Partition
         ensures { result ≡ [] }
     {
-        Partition {
-            alloc,
-            blocks: Vec::new(alloc),
-            homes: Vec::new(alloc),
-        }
+        Partition { alloc, held: None }
     }
 
     // The partition that labels make.
@@ -60,11 +58,11 @@ impl Partition {
         requires small { length labels.now ≤ 512 }
         ensures { IfOk result (λ p. p ≡ grouped labels.now) }
     {
-        let Grouped { blocks, homes } = group_by(alloc, labels)?;
+        let made = group_by(alloc, labels)?;
+        let held = Rc::new(alloc, made)?;
         Ok(Partition {
             alloc,
-            blocks,
-            homes,
+            held: Some(held),
         })
     }
 
@@ -81,12 +79,33 @@ impl Partition {
         Ok(p)
     }
 
+    // The members of the blocks.
+    fn blocks(&self) -> &[Vec<u32>]
+        ensures { map (λ vs. vs.items) result.now ≡ self.now }
+    {
+        match &self.held {
+            None => &[],
+            Some(h) => &h.blocks,
+        }
+    }
+
+    // The numbers of the blocks of all variables up to the last that is in one, or further.
+    fn homes(&self) -> &[Option<u32>]
+        ensures { IsHomes self.now result.now }
+    {
+        match &self.held {
+            None => &[],
+            Some(h) => &h.homes,
+        }
+    }
+
     /// The number of blocks.
     pub fn len(&self) -> u32
         ensures count { result ≡ length self.now }
         ensures small { result ≤ 512 }
     {
-        self.blocks.len() as u32
+        self.known();
+        self.blocks().len() as u32
     }
 
     /// The members of a block, rising.
@@ -94,7 +113,7 @@ impl Partition {
         requires { b < length self.now }
         ensures { result.now ≡ block_at self.now b }
     {
-        &self.blocks[b as usize]
+        &self.blocks()[b as usize]
     }
 
     /// The number of the block that has a variable, found at once.
@@ -102,11 +121,8 @@ impl Partition {
         ensures { MatchOption result (length self.now ≤ home self.now v) (λ b. (b ≡ home self.now v) × (b < length self.now)) }
     {
         let at = v as usize;
-        if at < self.homes.len() {
-            self.homes[at]
-        } else {
-            None
-        }
+        let homes = self.homes();
+        if at < homes.len() { homes[at] } else { None }
     }
 
     /// Law: the blocks are rising lists of variables below 512 that share none, aren't empty, and stand in the order of
@@ -126,18 +142,12 @@ impl Partition {
         Some(Label::Whole(b))
     }
 
-    /// An equal partition. It takes time as a merge does.
+    /// An equal partition, which shares the lists. It takes no memory.
     pub fn copy(&self, alloc: Global) -> Result<Partition, NoMemory>
         ensures { IfOk result (λ p. p ≡ self.now) }
     {
-        let mut labels = Vec::new(alloc);
-        for v in 0..self.homes.len() {
-            labels.push(self.plain_label(v as u32))?;
-        }
-        let p = Partition::from_labels(alloc, &labels)?;
-        self.known();
-        p.known();
-        Ok(p)
+        let held = self.held.clone()?;
+        Ok(Partition { alloc, held })
     }
 
     // The number of a variable's block, or one of its own.
@@ -171,7 +181,7 @@ impl Partition {
         requires variables { AreVariables vars.now }
         ensures { IsSpan self.now vars.now result }
     {
-        let mut past = self.homes.len();
+        let mut past = self.homes().len();
         for i in 0..vars.len() {
             let v = vars[i] as usize;
             if past <= v {
@@ -210,14 +220,43 @@ impl Partition {
         Ok(p)
     }
 
-    /// The given variables and every block that holds one of them become one block. For n variables up to the last one that
+    // Whether each of some variables is in block b.
+    fn has_all(&self, b: u32, vars: &[u32]) -> bool
+        requires block { b < length self.now }
+        ensures { result ≡ true → (i : ℕ) → i < length vars.now → home self.now (member vars.now i) ≡ b }
+    {
+        for i in 0..vars.len() {
+            if self.block_of(vars[i]) != Some(b) {
+                return false;
+            }
+        }
+        true
+    }
+
+    // Whether some variables are the members of one block already, or there are none of them.
+    fn are_together(&self, vars: &[u32]) -> bool
+        ensures { result ≡ true → IsMergedBy self.now vars.now self.now }
+    {
+        if vars.len() == 0 {
+            return true;
+        }
+        match self.block_of(vars[0]) {
+            None => false,
+            Some(b) => self.has_all(b, vars),
+        }
+    }
+
+    /// The given variables and every block that holds one of them become one block. Where they share one already, nothing
+    /// changes and no memory is taken. For n variables up to the last one that
     /// is in a block or given it takes time in proportion to n times the logarithm of n, and to the number of given ones.
     pub fn merge(&mut self, vars: &[u32]) -> Result<(), NoMemory>
         requires variables { AreVariables vars.now }
         ensures merged { OnOk result (IsMergedBy self.old vars.now self.new) }
         ensures kept { OnErr result (self.new ≡ self.old) }
     {
-        *self = self.merged(vars)?;
+        if !self.are_together(vars) {
+            *self = self.merged(vars)?;
+        }
         Ok(())
     }
 
@@ -244,7 +283,7 @@ impl Partition {
         ensures { IfOk result (λ p. IsSplitBy self.now b labels.now p) }
     {
         let mut made = Vec::new(self.alloc);
-        for v in 0..self.homes.len() {
+        for v in 0..self.homes().len() {
             made.push(self.split_label(b, labels, v as u32))?;
         }
         let p = Partition::from_labels(self.alloc, &made)?;
@@ -277,7 +316,7 @@ impl Partition {
         ensures { IfOk result (λ p. IsMeetOf a.now b.now p) }
     {
         let mut labels = Vec::new(alloc);
-        for v in 0..a.homes.len() {
+        for v in 0..a.homes().len() {
             labels.push(a.meet_label(b, v as u32))?;
         }
         let p = Partition::from_labels(alloc, &labels)?;

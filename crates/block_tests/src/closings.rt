@@ -35,7 +35,7 @@ const ROWS: [Row; 4] = [
         components: &[&[0, 1], &[2, 3]],
         closed: &[&[0, 1, 2, 3]],
         words: TWO_PAIRS_CLOSED,
-        rows: (48, 64),
+        rows: (48, 32),
     },
     Row {
         name: "two constants become one block",
@@ -44,7 +44,7 @@ const ROWS: [Row; 4] = [
         components: &[&[0], &[1]],
         closed: &[&[0, 1]],
         words: &[0, 0, 0, 0, 0, 0, 0, 0, 0, 0, 0, 0, 0, 0, 0, 0],
-        rows: (12, 16),
+        rows: (12, 8),
     },
     Row {
         name: "the outputs of a call, and a variable without a bound",
@@ -79,7 +79,7 @@ const ROWS: [Row; 4] = [
             3, 0, N, N, 6, 0, 0, 2, //
             3, 0, N, N, 6, 0, 2, 0,
         ],
-        rows: (36, 50),
+        rows: (18, 50),
     },
     Row {
         name: "bounds that no state meets",

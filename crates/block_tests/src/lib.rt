@@ -12,6 +12,8 @@ mod lattice;
 #[cfg(test)]
 mod matrices;
 #[cfg(test)]
+mod quick;
+#[cfg(test)]
 mod seeded;
 #[cfg(test)]
 mod values;

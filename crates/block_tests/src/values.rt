@@ -17,7 +17,8 @@ use std::process::Abort;
 /// The variables of which values are made.
 const VARIABLES: [u32; 5] = [0, 1, 2, 3, 4];
 
-fn has_zero_diagonal(m: &HalfBuf) -> bool
+/// Whether each entry on the diagonal is 0.
+pub(crate) fn has_zero_diagonal(m: &HalfBuf) -> bool
     ensures { result ≡ true → (i : ℕ) → i < length m.now → at m.now i i ≡ Some (pos 0) }
 {
     for i in 0..2 * m.vars() {

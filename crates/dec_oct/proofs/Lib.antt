@@ -12,3 +12,4 @@ pub mod Results
 pub mod Words
 pub mod Givens
 pub mod Extended
+pub mod Sures

@@ -6,7 +6,7 @@ ghost use Rattle.block_laws.specs.Assembly.{matrix, assembly, IsParts};
 ghost use Rattle.dec_oct.specs.Value.{blocks_of, octagon, octagon_of};
 ghost use Rattle.dec_oct.specs.Cost.{CostsAtMost, ClosesEach, TellsAgainOf};
 ghost use Rattle.dec_oct.specs.Given.{IsEvenGiven, IsLooseGiven, KeepsMarksOf};
-ghost use Rattle.dec_oct.specs.Closed.{IsClosedValue};
+ghost use Rattle.dec_oct.specs.Closed.{AreSure, IsClosedValue};
 
 use crate::closing::{close_unmarked, second_marks};
 use crate::cut::cut_components;
@@ -54,6 +54,7 @@ fn closed_value(
     dims: u32,
     given: &Held,
     closed: &[HalfMatrix],
+    sure: &[bool],
     scratch: &mut Scratch,
     count: &mut RowCount,
 ) -> Result<DecOct, NoMemory>
@@ -62,6 +63,7 @@ fn closed_value(
     requires given { IsLooseGiven dims (blocks_of given.now.partition given.now.matrices.items given.now.settled.items) }
     requires shapes { (b : ℕ) → b < length given.now.matrices.items → IsSquare (matrix given.now.matrices.items b) × IsCoherent (matrix given.now.matrices.items b) }
     requires closed { ClosesEach given.now.matrices.items (Some closed.now) }
+    requires sure { AreSure given.now.settled.items closed.now sure.now }
     ensures dims { IfOk result (λ v. v.dims ≡ dims) }
     ensures rises { count.old ≤ count.new }
     ensures value { IfOk result (λ v. IsClosedValue dims (blocks_of given.now.partition given.now.matrices.items given.now.settled.items) v.blocks count.old count.new) }
@@ -69,13 +71,7 @@ fn closed_value(
     know_shapes(closed);
     let joint = merged_parts(alloc, &given.partition, closed, dims)?;
     let made = cut_components(alloc, &joint.partition, &joint.matrices, dims)?;
-    let known = kept_marks(
-        alloc,
-        &given.partition,
-        &given.matrices,
-        &given.settled,
-        &made,
-    )?;
+    let known = kept_marks(alloc, &given.partition, closed, sure, &made)?;
     let again = second_marks(alloc, &made.matrices, &known, scratch, count)?;
     let v = of_blocks(alloc, dims, made.partition, made.matrices, again)?;
     Ok(v)
@@ -100,7 +96,15 @@ pub(crate) fn closed_parts(
     match close_unmarked(alloc, &given.matrices, &given.settled, &mut scratch, count)? {
         None => Ok(DecOct::bottom(dims)),
         Some(closed) => {
-            let v = closed_value(alloc, dims, given, &closed, &mut scratch, count)?;
+            let v = closed_value(
+                alloc,
+                dims,
+                given,
+                &closed.matrices,
+                &closed.settled,
+                &mut scratch,
+                count,
+            )?;
             Ok(v)
         }
     }

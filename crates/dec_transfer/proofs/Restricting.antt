@@ -1,5 +1,5 @@
 -- A value where a form is at most 0.
-use Rattle.std.proofs.Common.{◌≡◌, ℕ, ◌*◌, List, length, Option, Some, None, true, refl, sym, ap, ◌∙◌}
+use Rattle.std.proofs.Common.{◌≡◌, ℕ, ◌*◌, List, length, Option, Some, None, true, refl, sym, ap, ◌∙◌, subst}
 use Rattle.std.specs.Prelude.{IfSome, IsSome}
 use Rattle.std.specs.Option.{option_and_then}
 use Rattle.oct_def.specs.Tight.{tight}
@@ -11,9 +11,15 @@ use Rattle.interval_form.specs.FormBounds.{is_above_zero}
 use Rattle.interval_form.specs.Listed.{Lists}
 use Rattle.block_laws.proofs.Assembly.{length-assembly}
 use Rattle.dec_oct.specs.Value.{Blocks, whole, Decomposed, decomposed, octagon, octagon_of}
+use Rattle.dec_oct.specs.Given.{IsLooseGiven}
 use Rattle.dec_parts.specs.Lower.{lowered_matrix, IsLowered}
 use Rattle.dec_transfer.specs.Restricted.{restricted_value}
 use Rattle.dec_transfer.proofs.Lowering.{bounded-lowered, bounded-impossible}
+
+-- parts that took bounds may be closed
+pub given-lowered : (n d : ℕ) (o : Option Blocks) (bounds : List OctBound) (b : Blocks) → IsSome o → d ≡ n → IfSome o (λ a. IsLowered n a bounds b) → IsLooseGiven d b
+given-lowered n d None bounds b s e h = absurd (cc)
+given-lowered n d (Some a) bounds b s e h = subst (λ k. IsLooseGiven k b) (sym e) h.given
 
 -- the tight closure of parts that took bounds
 pub closed-lowered : (n d : ℕ) (o : Option Blocks) (bounds : List OctBound) (b : Blocks) (r : Decomposed) → d ≡ n → IfSome o (λ a. IsLowered n a bounds b)

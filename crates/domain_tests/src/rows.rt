@@ -7,7 +7,7 @@ use std::alloc::Global;
 use std::test::Fail;
 
 /// With how many groups of three variables a program is generated, and the rows that its analysis relaxes.
-const ROWS: [(u32, u64); 3] = [(1, 352), (3, 984), (40, 12676)];
+const ROWS: [(u32, u64); 3] = [(1, 176), (3, 492), (40, 6338)];
 
 /// The rows of an analysis of a generated program, with delay 1 and two rounds of narrowing.
 fn rows_of(alloc: Global, groups: u32) -> Result<u64, Fail> {

@@ -3,3 +3,4 @@ pub mod Steps
 pub mod Evening
 pub mod Strong
 pub mod Lowered
+pub mod ClosedEnds

@@ -12,5 +12,6 @@ mod ends;
 mod pairs;
 mod small;
 
-pub use block::{Outcome, Scratch, close_block};
+pub use block::{Outcome, Scratch, close_block, finish};
 pub use memory::NoMemory;
+pub use pairs::{step, weight};

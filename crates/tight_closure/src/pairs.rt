@@ -30,8 +30,8 @@ fn open_sum(y: i64, z: i64) -> i64
     y + z
 }
 
-// The lesser of a word and of the sum of two, which isn't clamped.
-fn weight(x: i64, y: i64, z: i64) -> i64
+/// The lesser of a word and of the sum of two, which isn't clamped.
+pub fn weight(x: i64, y: i64, z: i64) -> i64
     requires first { IsWord x }
     requires second { IsWord y }
     requires third { IsWord z }
@@ -67,8 +67,8 @@ fn relax_rows(m: &mut HalfBuf, k: u32, p: &[i64], q: &[i64], count: &mut RowCoun
     m.shape();
 }
 
-// The step at variable k, with scratch for two rows.
-fn step(m: &mut HalfBuf, k: u32, p: &mut [i64], q: &mut [i64], count: &mut RowCount)
+/// The step at variable k, with scratch for two rows. The count rises by as many rows as the matrix has.
+pub fn step(m: &mut HalfBuf, k: u32, p: &mut [i64], q: &mut [i64], count: &mut RowCount)
     requires variable { 2 * k + 1 < length m.old }
     requires in_range { (i j : ℕ) → InRange (at m.old i j) }
     requires first { length p.old ≡ length m.old }

@@ -17,7 +17,7 @@ use Rattle.tight_laws.proofs.Relax.{least_first}
 use Rattle.tight_laws.proofs.Strong.{IsClosed, IsStrong, strong-unary}
 
 -- a table of a square matrix's own entries is the matrix
-own_table : (r : Matrix) → IsSquare r → (f : ℕ → ℕ → Bound) → ((i j : ℕ) → i < length r → j < length r → f i j ≡ at r i j) → table (length r) f ≡ r
+pub own_table : (r : Matrix) → IsSquare r → (f : ℕ → ℕ → Bound) → ((i j : ℕ) → i < length r → j < length r → f i j ≡ at r i j) → table (length r) f ≡ r
 own_table r sq f same = table-same (length r) f (at r) same ∙ sym (table-at r sq)
 
 pair_entry-again : (n : ℕ) (r : Matrix) → IsClosed n r → ((i j : ℕ) → InRange (at r i j)) → (k i j : ℕ) → pair_entry k r i j ≡ at r i j

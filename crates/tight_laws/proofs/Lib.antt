@@ -14,4 +14,5 @@ pub mod Order
 pub mod Near
 pub mod Once
 pub mod Own
+pub mod Restriction
 pub mod Examples

@@ -43,7 +43,7 @@ pair_steps-suc : (l : ℕ) (m : Matrix) → pair_steps (suc l) m ≡ pair_step l
 unfolding pair_steps
 pair_steps-suc l m = refl
 
-even_entry-lower : (c : Matrix) (i j : ℕ) → Below (even_entry c i j) (at c i j)
+pub even_entry-lower : (c : Matrix) (i j : ℕ) → Below (even_entry c i j) (at c i j)
 unfolding even_entry
 even_entry-lower c i j = by (eqb j (opposite i))
   where
@@ -51,7 +51,7 @@ even_entry-lower c i j = by (eqb j (opposite i))
     by true = even_below (at c i j)
     by false = Below-refl (at c i j)
 
-strong_entry-lower : (e : Matrix) (i j : ℕ) → Below (strong_entry e i j) (at e i j)
+pub strong_entry-lower : (e : Matrix) (i j : ℕ) → Below (strong_entry e i j) (at e i j)
 unfolding strong_entry
 strong_entry-lower e i j = Below-left (at e i j) (plus (half (at e i (opposite i))) (half (at e (opposite j) j)))
 
@@ -72,7 +72,7 @@ own-lower n old h e i j hi hj =
     by : Answers (pair_steps n old) old → Below (at old i j) (at (pair_steps n old) i j)
     by (answers a b c) = Below-trans (Below-same (ap (λ r. at r i j) c)) (result-lower n (pair_steps n old) (length-pair_steps n old ∙ h.rows) i j hi hj)
 
-own-steps : (n : ℕ) (old : Matrix) → IsMatrix n old → tight old ≡ Some old → (l : ℕ) → l ≤ n → pair_steps l old ≡ old
+pub own-steps : (n : ℕ) (old : Matrix) → IsMatrix n old → tight old ≡ Some old → (l : ℕ) → l ≤ n → pair_steps l old ≡ old
 own-steps n old h e l hl =
     let rows = h.rows in
     let size = length-pair_steps l old in
@@ -82,6 +82,11 @@ own-steps n old h e l hl =
     Below-antisym
     (Below-trans (pair_steps-lower (2 * n) old rows i j hi hj l 0 (omega arith)) (Below-same (ap (λ m. at m i j) (pair_steps-zero old))))
     (Below-trans (own-lower n old h e i j hi hj) (pair_steps-lower (2 * n) old rows i j hi hj n l hl)))
+
+-- no step at a pivot changes the matrix
+pub own-pair_step : (n : ℕ) (old : Matrix) → IsMatrix n old → tight old ≡ Some old → (w : ℕ) → w < n → pair_step w old ≡ old
+own-pair_step n old h e w inside =
+    sym (sym (own-steps n old h e (suc w) (omega (arith, inside))) ∙ pair_steps-suc w old ∙ ap (pair_step w) (own-steps n old h e w (omega (arith, inside))))
 
 own-triangle : (n : ℕ) (old : Matrix) → IsMatrix n old → tight old ≡ Some old → (i k j : ℕ) → i < 2 * n → k < 2 * n → j < 2 * n → Below (at old i j) (clamped (plus (at old i k) (at old k j)))
 own-triangle n old h e i k j hi hk hj = by (grind arith)
@@ -93,7 +98,7 @@ own-triangle n old h e i k j hi hk hj = by (grind arith)
     inside = omega arith
 
     same : old ≡ pair_step (k / 2) old
-    same = sym (own-steps n old h e (suc (k / 2)) (omega (arith, inside))) ∙ pair_steps-suc (k / 2) old ∙ ap (pair_step (k / 2)) (own-steps n old h e (k / 2) (omega (arith, inside)))
+    same = sym (own-pair_step n old h e (k / 2) inside)
 
     entry : Below (at old i j) (pivot_entry (2 * (k / 2)) (2 * (k / 2) + 1) old i j)
     entry = Below-trans (Below-same (ap (λ m. at m i j) same)) (Below-same (at-pair_step (2 * n) (k / 2) old h.rows i j hi hj))

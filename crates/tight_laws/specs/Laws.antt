@@ -1,10 +1,11 @@
 -- The laws of the tight closure of matrices with small entries.
-use Rattle.std.specs.Prelude.{◌≡◌, ◌≢◌, ◌↔◌, ℕ, ◌+◌, ◌*◌, ◌/◌, ◌<◌, List, Some, None, ℤ, pos, ◌*ℤ◌, ◌-ℤ◌, ◌≤ℤ◌}
+use Rattle.std.specs.Prelude.{◌≡◌, ◌≢◌, ◌↔◌, ℕ, ◌+◌, ◌*◌, ◌/◌, ◌<◌, List, length, slice_index_or, Some, None, ℤ, pos, ◌*ℤ◌, ◌-ℤ◌, ◌≤ℤ◌}
 use Rattle.oct_def.specs.Bound.{Bound, low_limit, top_limit}
 use Rattle.oct_def.specs.Table.{Matrix, at}
 use Rattle.oct_def.specs.Matrix.{IsMatrix, Meets, signed_value}
 use Rattle.oct_def.specs.Tight.{tight}
 use Rattle.tight_laws.specs.Quick.{quick, quick_once, without}
+use Rattle.tight_laws.specs.Restricted.{restricted}
 
 -- 4n + 4 times the size of a finite entry is at most 2^61
 abbrev pub IsSmall : ℕ → Bound → Type 0
@@ -48,3 +49,7 @@ OnePassIsTight = (n v : ℕ) (old m : Matrix) → v < n → IsMatrix n old → t
 
 abbrev pub OnePassAlone : Type 0
 OnePassAlone = (n v : ℕ) (m : Matrix) → v < n → IsSmallMatrix n m → tight (without v m) ≡ Some (without v m) → quick_once v m ≡ tight m
+
+-- a restriction of a matrix that is its own tight closure is so too, in whichever order the variables are listed
+abbrev pub RestrictionIsTight : Type 0
+RestrictionIsTight = (n : ℕ) (vs : List ℕ) (m : Matrix) → IsMatrix n m → ((k : ℕ) → k < length vs → slice_index_or vs k 0 < n) → tight m ≡ Some m → tight (restricted vs m) ≡ Some (restricted vs m)

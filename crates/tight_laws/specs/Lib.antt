@@ -1,3 +1,4 @@
+pub mod Restricted
 pub mod Laws
 pub mod Quick
 pub mod Examples

@@ -8,7 +8,7 @@
 //! this project's own.
 #![tactic(auto)]
 
-ghost use Rattle.tight_laws.specs.Laws.{OnePassAlone, OnePassIsTight, QuickAlone, QuickIsTight, TightIsAgain, TightIsAttained, TightIsExact};
+ghost use Rattle.tight_laws.specs.Laws.{OnePassAlone, OnePassIsTight, QuickAlone, QuickIsTight, RestrictionIsTight, TightIsAgain, TightIsAttained, TightIsExact};
 ghost use Rattle.tight_laws.specs.Examples.{WorkedClosures};
 
 /// The tight closure is Bottom exactly where no integer state meets the matrix.
@@ -37,6 +37,11 @@ pub fn law_quick()
 pub fn law_one_pass()
     ensures change { OnePassIsTight }
     ensures alone { OnePassAlone }
+{}
+
+/// A restriction of a matrix that is its own tight closure is so too.
+pub fn law_restriction()
+    ensures { RestrictionIsTight }
 {}
 
 /// Worked closures, computed by the definitions.

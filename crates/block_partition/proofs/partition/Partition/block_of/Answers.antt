@@ -1,10 +1,6 @@
-use Rattle.std.proofs.Common.{◌≡◌, ◌∙◌, None, length, rules, arith}
-use Rattle.std.proofs.lemmas.List.{get_or_default}
+use Rattle.std.proofs.Common.{refl, rules}
 use Rattle.block_partition.proofs.Relabelled.{home-read}
 use Rattle.block_partition.proofs.partition.Partition.block_of.Goals as goal
 
-pub returns-then-at-len : goal.returns-then-at-len
-returns-then-at-len c =
-    let homes = c.self.inside.homes.items in
-    let n : c.len.result ≡ length homes = search rules in
-    home-read _ c.args.self.now homes c.args.v c.index.result.now c.self.view_is c.self.invariant.2 (omega arith) (c.index.ensures ∙ get_or_default homes c.args.v c.index.result.now None (omega arith))
+pub returns-then-at-homes : goal.returns-then-at-homes
+returns-then-at-homes c = home-read c.args.self.now c.args.self.now c.homes-homes.result.now c.args.v _ refl c.homes-homes.ensures (search rules) refl
