@@ -48,7 +48,7 @@ negated-nothing : negated nothing ≡ nothing
 unfolding negated
 negated-nothing = refl
 
-plus_one : (ranges : List Interval) (f : Form) → difference_form ranges f (constant_form (length ranges) (point (negsuc 0))) ≡ sum_form ranges f (constant_form (length ranges) (point (pos 1)))
+pub plus_one : (ranges : List Interval) (f : Form) → difference_form ranges f (constant_form (length ranges) (point (negsuc 0))) ≡ sum_form ranges f (constant_form (length ranges) (point (pos 1)))
 unfolding difference_form difference_term difference_of sum_form sum_term
 plus_one ranges f =
     let n = length ranges in
