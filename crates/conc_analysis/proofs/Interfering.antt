@@ -159,7 +159,7 @@ pub widened_at : (g : Graph) (sharing : Sharing) (x : Stage) (t v n : ℕ) (sour
 unfolding writes_at
 widened_at g sharing x t v n sources old w i e l h r q =
     let read : w ≡ written_by g sharing x t v =
-        r ∙ (ap (λ (z : List (Option Interval)). get_or z v w) e ∙ get_or-map-range_with_len (written_by g sharing x t) 0 n v v w l (omega arith)) in
+    r ∙ (ap (λ (z : List (Option Interval)). get_or z v w) e ∙ get_or-map-range_with_len (written_by g sharing x t) 0 n v v w l (omega arith)) in
     q ∙ (ap (λ (z : Option Interval). widen_writes z w) h ∙ ap (widen_writes (interference_at x.writes t v)) read)
 
 pub row_is : (f : ℕ → ℕ → Option Interval) (t v n : ℕ) (row : List (Option Interval)) → row ≡ map (f t) (range_with_len 0 v) → v ≡ n → row ≡ writes_row f n t

@@ -255,7 +255,7 @@ unfolding equation is_entry
 folded_equation k c sharing x p owner n q v e o other l t =
     let g = graph_of c in
     let b : nat_eq (proc_owning g p).entry p ≡ false =
-        ne_eqb (proc_owning g p).entry p (λ same. other (ap (λ (z : Proc). z.entry) (owning k p owner q o) ∙ (ap (λ (z : Parts). (proc_owning (graph_of z) p).entry) e ∙ same))) in
+    ne_eqb (proc_owning g p).entry p (λ same. other (ap (λ (z : Proc). z.entry) (owning k p owner q o) ∙ (ap (λ (z : Parts). (proc_owning (graph_of z) p).entry) e ∙ same))) in
     t ∙ (ap (fold (with_arc g sharing x p) None) (take_all n g.arcs (omega (arith, l, arc_count c)))
     ∙ sym (ap (λ (t : Bool). cond t (at_entry g sharing x p) (fold (with_arc g sharing x p) None g.arcs)) b))
 

@@ -292,7 +292,7 @@ solved_by : (g : Graph) (sharing : Sharing) (order points : List ℕ) (x from y 
     → (y ≡ lowered g sharing points (ascent_over g sharing points from).stage) × (rounds ≡ (ascent_over g sharing points from).rounds)
 solved_by g sharing order points x from y rounds l ends s o e r =
     let fuel : ascent g sharing order 2450690 0 x ≡ ascent_over g sharing points from =
-        ap (λ (z : List ℕ). ascent g sharing z 2450690 0 x) o ∙ (ap (ascent g sharing points 2450690 0) s ∙ enough g sharing points from l ends) in
+    ap (λ (z : List ℕ). ascent g sharing z 2450690 0 x) o ∙ (ap (ascent g sharing points 2450690 0) s ∙ enough g sharing points from l ends) in
     (e ∙ (ap (λ (z : List ℕ). lowered g sharing z (ascent g sharing order 2450690 0 x).stage) o ∙ ap (λ (z : Ascended). lowered g sharing points z.stage) fuel), r ∙ ap (λ (z : Ascended). z.rounds) fuel)
 
 pub main_is_solved : (c : Parts) (sharing : Sharing) (order : List ℕ) (x y : Stage) (rounds : ℕ) → IsCore c → IsThreaded (graph_of c) sharing → x ≡ start (graph_of c) → order ≡ main_points (graph_of c)

@@ -49,7 +49,11 @@ fn is_of_kind(system: &System, main: bool, p: u32) -> bool
     requires { p < length system.now.core.owners }
     ensures { result ≡ is_of_kind_of (graph_in system.now) main p }
 {
-    if main { system.is_main(p) } else { !system.is_main(p) }
+    if main {
+        system.is_main(p)
+    } else {
+        !system.is_main(p)
+    }
 }
 
 /// The points of main in order, or those of the threads.

@@ -98,7 +98,11 @@ fn restricted(
         Bounds::Nothing => Ok(None),
         Bounds::Few(bounds) => {
             let met = met(alloc, bounds.as_slice(), ranges)?;
-            if has_empty(&met) { Ok(None) } else { Ok(Some(met)) }
+            if has_empty(&met) {
+                Ok(None)
+            } else {
+                Ok(Some(met))
+            }
         }
     }
 }

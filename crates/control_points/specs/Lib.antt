@@ -1,4 +1,6 @@
+-- ---- claims: what the contract of the program says
 pub mod CoreOf
+-- ---- scaffolding: what proofs and inner contracts say
 pub mod Examples
 pub mod Routines
 pub mod Search

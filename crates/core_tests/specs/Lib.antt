@@ -1,1 +1,2 @@
+-- ---- scaffolding: what proofs and inner contracts say
 pub mod Cores

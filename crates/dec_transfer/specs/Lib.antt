@@ -1,3 +1,4 @@
+-- ---- scaffolding: what proofs and inner contracts say
 pub mod Listed
 pub mod Cost
 pub mod Forgotten

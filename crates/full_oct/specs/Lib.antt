@@ -1,3 +1,4 @@
+-- ---- scaffolding: what proofs and inner contracts say
 pub mod Words
 pub mod Value
 pub mod Places

@@ -1,2 +1,3 @@
+-- ---- scaffolding: what proofs and inner contracts say
 pub mod ProgramOf
 pub mod Accepted

@@ -1,3 +1,4 @@
+-- ---- claims: what the contract of the program says
 pub mod Accepted
 pub mod Analysis
 pub mod Bench

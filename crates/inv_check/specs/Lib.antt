@@ -1,3 +1,4 @@
+-- ---- scaffolding: what proofs and inner contracts say
 pub mod Given
 pub mod Bounds
 pub mod Verdict

@@ -1,3 +1,4 @@
+-- ---- scaffolding: what proofs and inner contracts say
 pub mod Invariants
 pub mod CertText
 pub mod Laws

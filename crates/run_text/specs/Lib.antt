@@ -1,1 +1,2 @@
+-- ---- claims: what the contract of the program says
 pub mod Text

@@ -88,7 +88,7 @@ returns-clause-value c =
     let t : TellsAgain made.matrices.items again = subst (λ x. TellsAgain x again) c.deref-2.ensures.value c.in_ok-again.ensures.again in
     let tells = told a made.partition made.matrices.items in
     let fewer : unmarked_cost made.matrices.items more ≤ unmarked_cost made.matrices.items tells.known = sure-cost g.partition made.partition g.matrices.items c.args.closed.now made.matrices.items g.settled.items c.args.sure.now tells.known more
-        c.requires.given.given.count c.in_ok-made.ensures.parts.count c.requires.given.given.settled c.requires.closed c.requires.sure tells.told c.in_ok-known.ensures in
+    c.requires.given.given.count c.in_ok-made.ensures.parts.count c.requires.given.given.settled c.requires.closed c.requires.sure tells.told c.in_ok-known.ensures in
     let bound : new ≤ old + unmarked_cost made.matrices.items more = subst (λ x. new ≤ old + unmarked_cost x more) c.deref-2.ensures.value
     (subst (λ x. new ≤ old + unmarked_cost c.deref-2.result.now x) c.deref-3.ensures.value c.second_marks.ensures.count) in
     closed-is c.args.dims a _ _ _ tells.known again old new _ r.0 c.in_ok-made.ensures tells.told t (omega (arith, bound, fewer)) c.in_ok-v.ensures
