@@ -10,11 +10,11 @@ mod calls;
 #[cfg(test)]
 mod cores;
 #[cfg(test)]
+mod counted;
+#[cfg(test)]
 mod counting;
 #[cfg(test)]
 mod programs;
-#[cfg(test)]
-mod rounds;
 #[cfg(test)]
 mod rows;
 #[cfg(test)]
