@@ -1,0 +1,1 @@
+"""Why a fail is not excluded, in words."""
