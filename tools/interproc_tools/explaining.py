@@ -4,7 +4,7 @@ import os
 import sys
 import tempfile
 
-from . import replays, rules, whynot
+from . import files, replays, rules, whynot
 from .program import ANALYSIS_USAGE, Program, read_words, usage_fault
 from .report import read_report
 
@@ -31,8 +31,7 @@ def main(argv):
     if fail is not None and not (fail.isdecimal() and int(fail)):
         usage_fault(tool, usage, f"--fail wants the number of a fail, from 1, and not {fail}")
     program, path = Program(), words.files[0]
-    data = read_file(path)
-    answer = run_on(program, path, data, words.options)
+    data, answer = files.run_on(program, path, words.options)
     told = rules.explain(program, path, data, answer, [*words.options, path])
     if told:
         sys.stdout.write(told.text())
@@ -58,27 +57,11 @@ def accepted(tool, path, report):
     return "\n".join(lines) + "\n"
 
 
-def read_file(path):
-    """The file's bytes; nothing where it can't be read, which the analyser tells."""
-    try:
-        with open(path, "rb") as file:
-            return file.read()
-    except OSError:
-        return b""
-
-
-def run_on(program, path, data, options):
-    """The analyser on the file; where it can be read but once, as a pipe, on its bytes."""
-    if os.path.isfile(path) or not data:
-        return program.run([*options, "--", path])
-    return program.run_texts([data], options)[0]
-
-
 def explain_replay(tool, usage, words):
     if words.options or words.own or len(words.files) != 3:
         usage_fault(tool, usage, "replay has two words behind it, FILE and CHOICES, and no options")
     program, (_, path, choices) = Program(), words.files
-    data, picked = read_file(path), read_file(choices)
+    data, picked = files.read_file(path), files.read_file(choices)
     with contextlib.ExitStack() as stack:
         # A pipe is read once, and the analyser reads again what stood in it.
         shown = choices
