@@ -62,7 +62,7 @@ def bad_step(program, path, data, choices, picked, rule, step):
     source_of = Source(data)
     names = names_of(source_of)
     if step == 0:
-        main = names.get("main", [])
+        main = names.get("", [])
         told.sentence = f"step 0 begins a run with {counted(len(main), 'value')}, and here are {len(text.split())}"
         told.hints.append(f"main's variables are {', '.join(main)}" if main else "main has no variables: the line is empty")
         return told
@@ -112,7 +112,7 @@ def names_of(source):
     for one in source.procedures():
         written = source.written(one)
         names = [f"{token.text}@" if token in one.inputs and token.text in written else token.text for token in one.variables]
-        found[one.name or "main"] = names + [token.text for token in one.inputs if token.text in written]
+        found[one.name] = names + [token.text for token in one.inputs if token.text in written]
     return found
 
 
@@ -122,7 +122,7 @@ def edges_of(point, report, names, source, depth):
     if statement in ("halt;", "fail;"):
         return []
     if statement == "end":
-        return [("back to the caller", 0)] if point.procedure != "main" else []
+        return [("back to the caller", 0)] if point.procedure else []
     if statement.startswith("if "):
         condition = statement.removeprefix("if ").removesuffix(" then")
         return [(f"where `{condition}` is true", 0), (f"where `{condition}` is false", 0)]

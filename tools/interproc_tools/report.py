@@ -87,7 +87,7 @@ def constraint_of(text):
 def read_report(text):
     """The report that the analyser wrote. Points are numbered as in replays: an entry, then a body's points in order."""
     lines = text.splitlines()
-    points, fails, rounds, number, procedure = [], [], 0, 0, "main"
+    points, fails, rounds, number, procedure = [], [], 0, 0, ""
     code = ""
     for row, line in enumerate(lines):
         point = POINT.match(line)
@@ -106,7 +106,7 @@ def read_report(text):
             elif code == "begin":
                 number += 1
             elif code == "end":
-                procedure = "main"
+                procedure = ""
             if points and not points[-1].statement and points[-1].row == row - 1:
                 points[-1].statement = code
     at = iter(fails)

@@ -157,7 +157,7 @@ def json_of(outcome):
     found["fails"] = [{"line": fail.line, "column": fail.column, "unreachable": fail.is_unreachable} for fail in report.fails]
     found["points"] = [
         {
-            "line": point.line, "column": point.column, "procedure": point.procedure, "bottom": point.is_bottom,
+            "line": point.line, "column": point.column, "procedure": point.procedure or None, "bottom": point.is_bottom,
             "constraints": [
                 {"terms": [[sign, name] for sign, name in one.terms], "constant": one.constant, "relation": "=" if one.is_equal else ">="}
                 for one in point.constraints
