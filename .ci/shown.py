@@ -1,0 +1,49 @@
+"""Tries what documents show: each command of a block `console` gives what stands below it, and each file is shown as it is.
+
+A block `console` has lines `$ COMMAND` with the output below each, both streams together. A block behind a line that ends
+with a file's name in backquotes and a colon is that file: one of the repository's own, word for word, or else one that the
+commands below are run on. They run in a folder of their own, in which bin, tools, docs and examples are the repository's.
+"""
+import os
+import pathlib
+import re
+import subprocess
+import sys
+import tempfile
+
+TOP = pathlib.Path(__file__).resolve().parent.parent
+BLOCK = re.compile(r"(?:`([\w./-]+\.(?:spl|choices))`:\n\n)?^```(\w*)\n(.*?)^```$", re.M | re.S)
+
+
+def commands(block):
+    """Each command of a block with the output below it."""
+    parts = re.split(r"^\$ (.*)\n", block, flags=re.M)
+    return zip(parts[1::2], parts[2::2])
+
+
+def try_page(page):
+    text = page.read_text()
+    with tempfile.TemporaryDirectory() as folder:
+        for name in ("bin", "tools", "docs", "examples"):
+            os.symlink(TOP / name, pathlib.Path(folder) / name)
+        for name, kind, body in BLOCK.findall(text):
+            if name and (TOP / name).exists():
+                if (TOP / name).read_text() != body:
+                    print(f"{page.name}: shows another text than {name}")
+            elif name:
+                (pathlib.Path(folder) / name).write_text(body)
+            elif kind == "console":
+                for command, wanted in commands(body):
+                    ran = subprocess.run(["bash", "-c", command], cwd=folder, stdout=subprocess.PIPE, stderr=subprocess.STDOUT, text=True)
+                    if ran.stdout.rstrip("\n") != wanted.rstrip("\n"):
+                        if "--write" in sys.argv:
+                            text = text.replace(f"$ {command}\n{wanted}", f"$ {command}\n{ran.stdout}")
+                        else:
+                            print(f"{page.name}: `{command}` gives\n{ran.stdout}and the page says\n{wanted}")
+    if "--write" in sys.argv:
+        page.write_text(text)
+
+
+for page in [TOP / "README.md", *sorted((TOP / "docs").glob("*.md"))]:
+    if "```console" in page.read_text() or BLOCK.search(page.read_text()):
+        try_page(page)
