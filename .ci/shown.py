@@ -47,3 +47,11 @@ def try_page(page):
 for page in [TOP / "README.md", *sorted((TOP / "docs").glob("*.md"))]:
     if "```console" in page.read_text() or BLOCK.search(page.read_text()):
         try_page(page)
+
+# What the gallery says to look at stands in the report, word for word.
+gallery = (TOP / "examples" / "README.md").read_text()
+for name, look_at in re.findall(r"^\| \[(\w+)\]\(.*?\) \| .*? \| (.*) \|$", gallery, re.M):
+    report = (TOP / "examples" / f"{name}.out").read_text()
+    for quoted in re.findall(r"`([^`]*=0[^`]*)`", look_at):
+        if quoted not in report:
+            print(f"examples/README.md: `{quoted}` is not in {name}.out")
