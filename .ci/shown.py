@@ -23,25 +23,30 @@ def commands(block):
 
 def try_page(page):
     text = page.read_text()
+    written, here = [], 0
     with tempfile.TemporaryDirectory() as folder:
         for name in ("bin", "tools", "docs", "examples"):
             os.symlink(TOP / name, pathlib.Path(folder) / name)
-        for name, kind, body in BLOCK.findall(text):
+        for block in BLOCK.finditer(text):
+            name, kind, body = block.groups()
             if name and (TOP / name).exists():
                 if (TOP / name).read_text() != body:
                     print(f"{page.name}: shows another text than {name}")
             elif name:
                 (pathlib.Path(folder) / name).write_text(body)
             elif kind == "console":
-                for command, wanted in commands(body):
-                    ran = subprocess.run(["bash", "-c", command], cwd=folder, stdout=subprocess.PIPE, stderr=subprocess.STDOUT, text=True)
-                    if ran.stdout.rstrip("\n") != wanted.rstrip("\n"):
-                        if "--write" in sys.argv:
-                            text = text.replace(f"$ {command}\n{wanted}", f"$ {command}\n{ran.stdout}")
-                        else:
-                            print(f"{page.name}: `{command}` gives\n{ran.stdout}and the page says\n{wanted}")
+                written += [text[here : block.start(3)], *(try_command(page, folder, *pair) for pair in commands(body))]
+                here = block.end(3)
     if "--write" in sys.argv:
-        page.write_text(text)
+        page.write_text("".join(written) + text[here:])
+
+
+def try_command(page, folder, command, wanted):
+    """The command with what it gives; where that isn't wanted, this is said."""
+    ran = subprocess.run(["bash", "-c", command], cwd=folder, stdout=subprocess.PIPE, stderr=subprocess.STDOUT, text=True)
+    if ran.stdout.rstrip("\n") != wanted.rstrip("\n") and "--write" not in sys.argv:
+        print(f"{page.name}: `{command}` gives\n{ran.stdout}and the page says\n{wanted}")
+    return f"$ {command}\n{ran.stdout}"
 
 
 for page in [TOP / "README.md", *sorted((TOP / "docs").glob("*.md"))]:

@@ -117,7 +117,7 @@ def report_page(path, options, source, report):
     count = len(report.fails)
     if count:
         verdict = "good" if report.shown == count else "bad"
-        lines.append(f'<p><span class="verdict {verdict}">{report.shown} of {count} fails shown unreachable</span></p>')
+        lines.append(f'<p><span class="verdict {verdict}">{report.shown} of {count} {'fail' if count == 1 else 'fails'} shown unreachable</span></p>')
         lines.append('<ul class="fails">')
         for fail in report.fails:
             colour, said = ("good", "unreachable") if fail.is_unreachable else ("bad", "not excluded")

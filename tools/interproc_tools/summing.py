@@ -110,7 +110,7 @@ def as_lines(outcomes):
     total = totals(outcomes)
     lines.append(
         f"{total['files']} {'file' if total['files'] == 1 else 'files'}, {total['refused']} refused; "
-        f"{total['shown']} of {total['shown'] + total['open']} fails shown unreachable\n"
+        f"{total['shown']} of {total['shown'] + total['open']} {'fail' if total['shown'] + total['open'] == 1 else 'fails'} shown unreachable\n"
     )
     return "".join(lines)
 

@@ -141,10 +141,13 @@ class Walk:
 
     def where_lost(self, point, need):
         """Goes back over the statements, with the bound as it would have to be before each, up to where it was lost."""
+        behind = None
         for _ in range(400):
             before, statement = self.step_back(point, need)
+            if statement == "done;" and behind is None and self.is_set_between(before.row, point.row, need):
+                behind = (before, need)
             if before is None:
-                return [f"  {statement}"]
+                return self.not_from_loop(*behind) if behind else [f"  {statement}"]
             target = re.match(r"(\w+) = (.*);$", statement)
             call = re.match(r"(.*) = (\w+)\(.*\);$", statement)
             names = dict(need.sum.factors)
@@ -168,10 +171,26 @@ class Walk:
                 wanted = conditions.Need(conditions.Sum(told.factors, 0), need.most - told.constant)
             if self.knows(before, wanted):
                 return self.lost_here(point, need, statement)
+            if not wanted.sum.factors and behind:
+                return self.not_from_loop(*behind)
             if not wanted.sum.factors:
                 return [f"  `{statement}`, in line {point.line}, sets it so, and some run may come to the fail from there"]
             point, need = before, wanted
         return []
+
+    def is_set_between(self, first, last, need):
+        """Whether a statement in these rows has a variable of the bound as a target."""
+        targets = {name for row in range(first, last) for name in re.findall(r"\w+", self.code(row).partition(" = ")[0]) if " = " in self.code(row)}
+        return any(name in targets for name, _ in need.sum.factors)
+
+    def not_from_loop(self, head, need):
+        """It doesn't hold before a loop either: the loop's end must give it, and what its head keeps doesn't."""
+        condition = self.code(head.row + 1).removeprefix("while ").removesuffix(" do")
+        line = self.row_of[head.row + 2].line
+        return [
+            f"  it doesn't hold before the loop in line {line}; behind it `{condition}` is false, and with what the loop's head keeps that doesn't give {need.text()}",
+            "  may help: a condition of the loop that speaks of these variables",
+        ]
 
     def lost_here(self, point, need, statement):
         """The bound holds where a run comes from, and not at this point."""
