@@ -116,8 +116,8 @@ def report_page(path, options, source, report):
     lines = [head(path)]
     count = len(report.fails)
     if count:
-        verdict = "good" if report.shown == count else "bad"
-        lines.append(f'<p><span class="verdict {verdict}">{report.shown} of {count} {'fail' if count == 1 else 'fails'} shown unreachable</span></p>')
+        verdict, fails = "good" if report.shown == count else "bad", "fail" if count == 1 else "fails"
+        lines.append(f'<p><span class="verdict {verdict}">{report.shown} of {count} {fails} shown unreachable</span></p>')
         lines.append('<ul class="fails">')
         for fail in report.fails:
             colour, said = ("good", "unreachable") if fail.is_unreachable else ("bad", "not excluded")
