@@ -3,12 +3,16 @@ import html
 import json
 import os
 import pathlib
+import random
 import re
 import subprocess
 import sys
 import tempfile
 
 TOP = pathlib.Path(__file__).resolve().parent.parent
+sys.path.insert(0, str(TOP / "tools"))
+from interproc_tools import report  # noqa: E402
+
 TOOLS = ("explain", "diagnose", "page", "summary")
 PROGRAMS = sorted((TOP / "examples").glob("*.spl"))
 
@@ -125,6 +129,60 @@ REPLAYS = (
 )
 
 
+def try_infix():
+    """Readable constraints say the same as the report's, on values drawn near to where they are sharp."""
+    rng = random.Random(1)
+    for program in PROGRAMS:
+        for point in report.read_report(program.with_suffix(".out").read_text()).points:
+            readable = [re.sub(r"(?<![<>])=", "==", one.replace("@", "_in")) for one in report.infix(point.constraints)]
+            names = sorted({name for one in point.constraints for _, name in one.terms})
+            constants = [0, 1, -1, *(sign * one.constant for one in point.constraints for sign in (1, -1))]
+            for _ in range(40):
+                values = {name: rng.choice(constants) + rng.choice((-1, 0, 1)) for name in names}
+                sums = [(one, sum(sign * values[name] for sign, name in one.terms) + one.constant) for one in point.constraints]
+                holds = all(total == 0 if one.is_equal else total >= 0 for one, total in sums)
+                said = all(eval(one, {}, {name.replace("@", "_in"): value for name, value in values.items()}) for one in readable)
+                if holds != said:
+                    print(f"{program.name}, point {point.number}: {point.note} and {readable} differ at {values}")
+                    return
+
+
+def try_fails(folder):
+    """Why a fail is not excluded: what is missing, where it was lost, and what shows it."""
+    lost = folder / "lost.spl"
+    lost.write_text(LOST)
+    for number, wanted in enumerate(WANTED, 1):
+        got = run(["tools/explain", "--fail", str(number), lost]).stdout
+        for part in wanted:
+            want(f"explain --fail {number}: {got}", part in got)
+    beyond = run(["tools/explain", "--fail", "9", lost])
+    want(f"explain --fail 9: {beyond.stderr}", beyond.returncode == 2 and "has 5 fails" in beyond.stderr)
+
+
+LOST = """proc step(n:int) returns (r:int) begin r = n + 1; if r > 100 then r = random; endif; end
+var a:int, b:int, d:int, i:int, j:int, n:int;
+begin
+  assume a > b;
+  d = a - b;
+  if d < 1 then fail; endif;
+  i = step(j);
+  if i > 200 then fail; endif;
+  a = random;
+  if a > 5 then fail; endif;
+  a = b * b;
+  if a < 0 then fail; endif;
+  if i + j + n > 3 then fail; endif;
+end
+"""
+WANTED = (
+    ["missing: d >= 1; nothing of that kind is known", "lost at `d = a - b;`", "no option shows it"],
+    ["missing: i <= 200", "lost at the call `i = step(j);`, in line 7: the end of `step` says nothing of it"],
+    ["`a` is any value since line 9"],
+    ["lost at `a = b * b;`, in line 11: a product or a quotient"],
+    ["missing: i + j + n <= 3, which relates 3 variables"],
+)
+
+
 def try_replays(folder):
     choices = folder / "some.choices"
     for text, wanted in REPLAYS:
@@ -168,5 +226,7 @@ with tempfile.TemporaryDirectory() as name:
     try_diagnose(pathlib.Path(name))
     try_page(pathlib.Path(name))
     try_summary(pathlib.Path(name))
+    try_infix()
+    try_fails(pathlib.Path(name))
     try_replays(pathlib.Path(name))
     try_install(pathlib.Path(name))
