@@ -19,6 +19,7 @@ import pathlib
 import random
 import re
 import signal
+import subprocess
 import sys
 import tempfile
 import time
@@ -235,6 +236,16 @@ def raise_timeout(number, frame):
 
 
 def work(program, until, seed, results):
+    """Tries inputs; whatever stops it, the one that waits for its figures gets an answer."""
+    try:
+        try_inputs(program, until, seed, results)
+    except BaseException as fault:
+        results.put((f"this script failed: {fault!r}", "", "", [], b"", b""))
+        results.put((collections.Counter(), 0.0, 0.0, 0, 0))
+        raise
+
+
+def try_inputs(program, until, seed, results):
     rng = random.Random(seed)
     gallery = [path.read_bytes() for path in sorted(EXAMPLES.glob("*.spl"))]
     signal.signal(signal.SIGALRM, raise_timeout)
@@ -263,10 +274,24 @@ def work(program, until, seed, results):
     results.put((counts, slowest, longest, late, largest))
 
 
+def program_of(word):
+    """The path of the program; where it is none, or no analyser, this says so and ends."""
+    path = pathlib.Path(word).resolve()
+    if not path.is_file() or not os.access(path, os.X_OK):
+        sys.exit(f"{word}: this is no program that can be run; give the built one, as out/interproc")
+    try:
+        said = subprocess.run([path], stdin=subprocess.DEVNULL, capture_output=True, timeout=20)
+    except (OSError, subprocess.TimeoutExpired) as fault:
+        sys.exit(f"{word}: it can't be run: {fault}")
+    if said.returncode != 2 or not re.fullmatch(LINES[2], said.stderr):
+        sys.exit(f"{word}: this is another program: with no words the analyser ends with status 2 and its line on usage")
+    return str(path)
+
+
 def main():
     if len(sys.argv) < 2:
         sys.exit(__doc__)
-    program = str(pathlib.Path(sys.argv[1]).resolve())
+    program = program_of(sys.argv[1])
     seconds = float(sys.argv[2]) if len(sys.argv) > 2 else 60.0
     seed = int(sys.argv[3]) if len(sys.argv) > 3 else random.randrange(1 << 32)
     print(f"seed {seed}")
