@@ -24,12 +24,12 @@ const REFUSED: &[(&str, &str)] = &[
     ),
     ("var x:t; begin end", "refused: UnsupportedType at L1 C7\n"),
     (
-        "var x:int; begin x = x / 2; end",
-        "refused: UnsupportedOperator at L1 C24\n",
+        "var x:int; begin x = x / y; end",
+        "refused: UnknownVariable at L1 C26\n",
     ),
     (
-        "var x:int; begin x = 7 + x % 2; end",
-        "refused: UnsupportedOperator at L1 C28\n",
+        "var x:int; begin x = 7 % (x < 2); end",
+        "refused: WrongKind at L1 C29\n",
     ),
     (
         "var x:int, x:int; begin end",

@@ -4,6 +4,9 @@ use crate::outside::Outside;
 use crate::reports::COUNTING;
 use std::test::Fail;
 
+/// A program with a quotient that is missing where x is 0.
+const DIVIDING: &str = "var x:int;\nbegin\nx = 7 / x;\nend\n";
+
 /// A program, the word for the choices, the choices as the file `c`, the status, the lines of the run, and the line on
 /// the second stream.
 const REPLAYS: &[(&str, &str, &str, u8, &str, &str)] = &[
@@ -42,6 +45,15 @@ const REPLAYS: &[(&str, &str, &str, u8, &str, &str)] = &[
         "",
         "refused: UnknownVariable at L1 C7\n",
     ),
+    (
+        DIVIDING,
+        "c",
+        "-2\n0\n0\n",
+        0,
+        "0 1 -2\n1 1 -2\n2 1 -3\n",
+        "",
+    ),
+    (DIVIDING, "c", "0\n0\n0\n", 3, "", "refused: NotARun 2\n"),
     (COUNTING, "d", "", 4, "", "fault: CannotOpen\n"),
     ("begin @", "d", "", 3, "", "refused: BadByte at L1 C7\n"),
 ];

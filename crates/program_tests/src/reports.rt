@@ -56,7 +56,7 @@ fn reports(rt: HostRuntime) -> Result<(), Fail> {
     Ok(())
 }
 
-/// Programs with a loop, with fails, and with a procedure, each with its status and its report.
+/// Programs with a loop, with fails, with a procedure, and with division, each with its status and its report.
 const WORKED: &[(&str, u8, &str)] = &[
     (COUNTING, 0, COUNTED),
     (
@@ -68,6 +68,26 @@ const WORKED: &[(&str, u8, &str)] = &[
         "proc inc(n:int) returns (r:int)\nbegin\nn = n + 1;\nr = n;\nend\nvar a:int, b:int;\nbegin\nb = inc(a);\nend\n",
         0,
         "proc inc(n:int) returns (r:int)\nbegin\n  /* (L2 C6) [|-n@+n=0|] */\n  n = n + 1;\n  /* (L3 C11) [|-n@+n-1=0|] */\n  r = n;\n  /* (L4 C7) [|-n@+r-1=0; -n@+n-1=0; -r+n=0|] */\nend\nvar a:int, b:int;\nbegin\n  /* (L7 C6) top */\n  b = inc(a);\n  /* (L8 C12) [|-a+b-1=0|] */\nend\n/* rounds: 3 */\n",
+    ),
+    (
+        "var x:int; begin x = x / 2; end\n",
+        0,
+        "var x:int;\nbegin\n  /* (L1 C17) top */\n  x = x / 2;\n  /* (L1 C28) top */\nend\n/* rounds: 2 */\n",
+    ),
+    (
+        "var x:int, y:int;\nbegin\nassume x >= -7 and x <= 9;\ny = x / 2;\nend\n",
+        0,
+        "var x:int, y:int;\nbegin\n  /* (L2 C6) top */\n  assume x >= -7 and x <= 9;\n  /* (L3 C27) [|x+7>=0; -x+9>=0|] */\n  y = x / 2;\n  /* (L4 C11) [|x+7>=0; -x+9>=0; y+3>=0; -y+4>=0|] */\nend\n/* rounds: 2 */\n",
+    ),
+    (
+        "var x:int, y:int;\nbegin\nassume x >= -7 and x <= 9;\ny = x % 4;\nend\n",
+        0,
+        "var x:int, y:int;\nbegin\n  /* (L2 C6) top */\n  assume x >= -7 and x <= 9;\n  /* (L3 C27) [|x+7>=0; -x+9>=0|] */\n  y = x % 4;\n  /* (L4 C11) [|x+7>=0; -x+9>=0; y+3>=0; -y+3>=0|] */\nend\n/* rounds: 2 */\n",
+    ),
+    (
+        "var x:int, y:int;\nbegin\nx = 5;\ny = 7 / 0;\nend\n",
+        0,
+        "var x:int, y:int;\nbegin\n  /* (L2 C6) top */\n  x = 5;\n  /* (L3 C7) [|x-5=0|] */\n  y = 7 / 0;\n  /* (L4 C11) [|x-5=0; y=0|] */\nend\n/* rounds: 2 */\n",
     ),
 ];
 
