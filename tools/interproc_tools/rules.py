@@ -532,14 +532,6 @@ def unsupported_type(told, program, source, offset, token):
         told.hints.append("integers have no limit; say by `assume` what a smaller type would hold")
 
 
-def unsupported_operator(told, program, source, offset, token):
-    told.sentence = f"`{token.text}` is read but not analysed"
-    if token.text == "/":
-        told.hints.append("say by `assume` what the quotient is: `q = random; assume 2 * q <= x and x <= 2 * q + 1;`")
-    else:
-        told.hints.append("say by `assume` what the rest is: `r = random; assume r >= 0 and r < 2;`")
-
-
 ANYTHING = ("nondet", "input", "read", "rand", "havoc", "scanf", "getchar", "randint")
 
 
@@ -672,7 +664,6 @@ EXPLAINED = {
     "Syntax": bad_syntax,
     "DuplicateName": duplicate_name,
     "UnsupportedType": unsupported_type,
-    "UnsupportedOperator": unsupported_operator,
     "UnknownVariable": unknown_variable,
     "UnknownProcedure": unknown_procedure,
     "WrongCount": wrong_count,
