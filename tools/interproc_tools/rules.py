@@ -212,7 +212,7 @@ def long_run(told, program, source, offset, token):
 
 
 def bad_syntax(told, program, source, offset, token):
-    kinds, ends = syntax.what_could_stand(program, source, offset)
+    kinds, ends, reach = syntax.what_could_stand(program, source, offset)
     before = source.tokens_before(offset)
     last = before[-1] if before else None
     after = source.tokens_from(offset)
@@ -223,7 +223,7 @@ def bad_syntax(told, program, source, offset, token):
     if hint:
         told.hints.append(hint)
     elif last:
-        told.hints += missing(told, program, about)
+        told.hints += missing(told, about, reach)
     else:
         told.hints.append("the least program is `begin end`")
     if not token.text and last and not told.shown:
@@ -261,10 +261,9 @@ class Place:
         return re.split(rb"[;\n{]", front)[0].decode("utf-8", "replace").strip()
 
 
-def missing(told, program, about):
+def missing(told, about, reach):
     """The token that is missing, where one more lets the text be read farther."""
-    wanted = [kind for kind in (";", "then", "do", ")", "endif", "done", "end", ":", "begin", "(", ",") if kind in about.kinds]
-    reach = syntax.insertions(program, about.source, about.token.start, wanted)
+    wanted = list(reach)
     far = {kind: at for kind, at in reach.items() if at > about.token.end or not about.token.text and at > about.token.start}
     if not far:
         return []

@@ -16,15 +16,44 @@ STATEMENTS = ["NAME", "(", "skip", "halt", "fail", "assume", "if", "while"]
 WORDS = {"NAME": "a name", "NUMBER": "a number"}
 
 
+# Kinds of which one is often missing, the likeliest first.
+OFTEN_MISSING = (";", "then", "do", ")", "endif", "done", "end", ":", "begin", "(", ",")
+
+
 def what_could_stand(program, source, offset):
-    """The kinds of tokens that could stand at this offset, and whether the text could end there."""
+    """The kinds of tokens that could stand at this offset, whether the text could end there, and how far it reads with one more.
+
+    The last is for each kind that is often missing and could stand there: an offset of the text as it is. All is asked at
+    once, since the quick way compiles anew each time.
+    """
     front = source.data[:offset] + b"\n"
     line = front.count(b"\n") + 1
     kinds = list(SPELLED)
-    answers = program.run_texts([front + SPELLED[kind].encode() for kind in kinds] + [front])
+    more = [with_one_more(source, offset, kind) for kind in OFTEN_MISSING]
+    answers = program.run_texts([front + SPELLED[kind].encode() for kind in kinds] + [front] + more)
     can = [kind for kind, answer in zip(kinds, answers) if (answer.refusal() or ("", 0, 0))[1:] != (line, 1)]
-    last = answers[-1].refusal()
-    return can, last is None or last[0] != "Syntax"
+    last = answers[len(kinds)].refusal()
+    reach = {
+        kind: reaches(source, text, answer)
+        for kind, text, answer in zip(OFTEN_MISSING, more, answers[len(kinds) + 1 :])
+        if kind in can
+    }
+    return can, last is None or last[0] != "Syntax", reach
+
+
+def with_one_more(source, offset, kind):
+    """The text with a token of this kind put in behind the last one before an offset."""
+    before = source.tokens_before(offset)
+    at = before[-1].end if before else 0
+    return source.data[:at] + b" " + SPELLED[kind].encode() + b" " + source.data[at:]
+
+
+def reaches(source, text, answer):
+    """The offset at which the text with one token more is refused, in the text as it is; past its end where it isn't."""
+    refusal = answer.refusal()
+    if refusal is None or refusal[0] not in ("Syntax", "BadByte"):
+        return len(source.data) + 1
+    return type(source)(text).offset(*refusal[1:]) - (len(text) - len(source.data))
 
 
 def in_words(kinds, ends=False):
@@ -51,20 +80,3 @@ def in_words(kinds, ends=False):
     if ends:
         said.append("the end of the text")
     return ", ".join(said[:-1]) + (" or " if len(said) > 1 else "") + said[-1] if said else "nothing"
-
-
-def insertions(program, source, offset, kinds):
-    """For each kind how far the text reads with such a token put in before this offset: an offset of the text as it is."""
-    before = source.tokens_before(offset)
-    at = before[-1].end if before else 0
-    texts = [source.data[:at] + b" " + SPELLED[kind].encode() + b" " + source.data[at:] for kind in kinds]
-    reach = {}
-    for kind, text, answer in zip(kinds, texts, program.run_texts(texts)):
-        refusal = answer.refusal()
-        added = len(text) - len(source.data)
-        if refusal is None or refusal[0] not in ("Syntax", "BadByte"):
-            reach[kind] = len(source.data) + 1
-        else:
-            starts = type(source)(text)
-            reach[kind] = starts.offset(*refusal[1:]) - added
-    return reach
