@@ -1,6 +1,6 @@
 //! The values that invariants give for the points of a core, in the plain domain.
 ghost use Rattle.std.specs.Prelude.{◌≡◌, ◌<◌, ◌≤◌, length, map, IfOk};
-ghost use Rattle.std.specs.List.{range_with_len};
+ghost use Rattle.std.specs.List.{All};
 ghost use Rattle.spl_core.specs.Graph.{graph_of, dims_at};
 ghost use Rattle.oct_def.specs.Octagon.{IsValueOver};
 ghost use Rattle.inv_text.specs.Invariants.{matrix_in, AreInvariants};
@@ -18,7 +18,9 @@ use std::alloc::Global;
 /// The number of variables of each point of a core: what the text of its invariants is read by.
 #[tactic(auto, unfolding(crate::specs::Given::dims_of))]
 pub fn point_dims(alloc: Global, core: &Core) -> Result<Vec<u32>, NoMemory>
-    ensures { IfOk result (λ dims. dims.items ≡ dims_of (graph_of core.now)) }
+    ensures dims { IfOk result (λ dims. dims.items ≡ dims_of (graph_of core.now)) }
+    ensures few { IfOk result (λ dims. length dims.items ≤ 4096) }
+    ensures small { IfOk result (λ dims. All (λ n. n ≤ 256) dims.items) }
 {
     let mut dims = Vec::new(alloc);
     for p in 0..core.points() {

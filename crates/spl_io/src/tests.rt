@@ -2,7 +2,7 @@ ghost use Rattle.std.specs.Prelude.{◌≤◌, ◌<◌, ◌≡◌, length, IfOk}
 
 use crate::{
     HostFiles, HostSink, MemFiles, MemSink, NoMemory, ReadAllError, Words, WriteFault, read_all,
-    write_all,
+    read_up_to, write_all,
 };
 use std::alloc::{AllocError, Global};
 use std::fs::File;
@@ -64,6 +64,22 @@ fn a_whole_file_is_read_in_pieces(rt: HostRuntime) -> Result<(), Fail> {
             all.as_slice() == bytes.as_slice(),
             "{len} bytes in pieces of {piece}"
         );
+    }
+    Ok(())
+}
+
+#[test]
+fn a_file_of_at_most_so_many_bytes(rt: HostRuntime) -> Result<(), Fail> {
+    let alloc = rt.alloc();
+    let words = one_word(alloc, b"a.spl")?;
+    for (len, most, is_whole) in [(9, 9, true), (10, 9, false), ((1 << 20) + 1, 1 << 24, true)] {
+        let bytes = bytes_of(alloc, len)?;
+        let mut files = MemFiles::new(alloc, 4096);
+        files.put(b"a.spl", &bytes)?;
+        match read_up_to(alloc, &mut files, &words, 0, most) {
+            Ok(all) => assert!(rt; is_whole && all.as_slice() == bytes.as_slice()),
+            Err(fault) => assert!(rt; !is_whole && fault == ReadAllError::TooLong),
+        }
     }
     Ok(())
 }
