@@ -1,6 +1,17 @@
 //! Laws over the definitions, as calls whose contracts are the laws.
 ghost use Rattle.iteration.specs.Ends.{GraphsAreSystems, AscentsEnd, AscentsAreInductive, SolutionsAreSized};
+ghost use Rattle.iteration.specs.Laws.{WidenAgain, WidenJoined};
 ghost use Rattle.iteration.specs.Sound.{AnalysesAreSound};
+
+/// A widening done again by the same value changes nothing.
+pub fn law_widen_again()
+    ensures { WidenAgain }
+{}
+
+/// A widening by a value that was joined before changes nothing.
+pub fn law_widen_joined()
+    ensures { WidenJoined }
+{}
 
 /// The equations of a graph are a system for the rounds. The ascent ends within `2C + 2` of them, and what it leaves is
 /// unchanged by a further round, and inductive.

@@ -8,5 +8,6 @@ mod solution;
 mod system;
 
 pub use analysis::analyse;
-pub use laws::{law_ascent, law_sizes, law_sound};
+pub use laws::{law_ascent, law_sizes, law_sound, law_widen_again, law_widen_joined};
+pub use rounds::{law_join_again, law_narrow_again};
 pub use solution::Solution;
