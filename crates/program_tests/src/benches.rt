@@ -12,17 +12,17 @@ const BENCHES: &[(u32, &str, &str)] = &[
     (
         1,
         "1",
-        "variables 3\npoints 9\nrounds 2\nblocks 1\nlargest 3\nrows 352\n",
+        "variables 3\npoints 9\nrounds 2\nblocks 1\nlargest 3\nrows 176\n",
     ),
     (
         3,
         "03",
-        "variables 9\npoints 19\nrounds 2\nblocks 3\nlargest 3\nrows 984\n",
+        "variables 9\npoints 19\nrounds 2\nblocks 3\nlargest 3\nrows 492\n",
     ),
     (
         40,
         "40",
-        "variables 120\npoints 204\nrounds 2\nblocks 40\nlargest 3\nrows 12676\n",
+        "variables 120\npoints 204\nrounds 2\nblocks 40\nlargest 3\nrows 6338\n",
     ),
 ];
 
@@ -44,6 +44,6 @@ fn a_bench_counts_what_it_relaxes_itself(rt: HostRuntime) -> Result<(), Fail> {
         let text = bench_text(rt.alloc(), number, &mut dom)?;
         assert_eq!(rt; text.as_slice(), figures.as_bytes(), "{word}");
     }
-    assert_eq!(rt; dom.rows(), 14012);
+    assert_eq!(rt; dom.rows(), 7006);
     Ok(())
 }
